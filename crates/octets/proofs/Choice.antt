@@ -1,0 +1,8 @@
+-- Either way of a choice, with what its test says. Assumes nothing.
+use mathlib.Core.Path.{_≡_, refl}
+use mathlib.Core.Bool.{Bool, true, false}
+use Rattle.octets.specs.Choice.{if_then_else_}
+
+pub choice : {A : Type 0} (P : A → Type 0) (t : Bool) {x y : A} → (t ≡ true → P x) → (t ≡ false → P y) → P (if t then x else y)
+choice P true f g = f refl
+choice P false f g = g refl

@@ -1,0 +1,5 @@
+pub mod Choice
+pub mod Decimal
+pub mod Order
+pub mod Overwrite
+pub mod Promise

@@ -1,0 +1,102 @@
+-- The laws of `overwrite`: a write of nothing and of one byte, two writes one behind the other, a write into a part that was lent, and what stands there after it.
+-- Assumes nothing.
+use mathlib.Core.Path.{_≡_, refl, sym, ap, _∙_}
+use mathlib.Core.List.{List, [], _∷_, _++_, append-assoc}
+use Prim.Native.Nat.{ℕ, suc, _+_, _≤_, _<_}
+use native.Mathlib.Nat.{add-zero, zero-add, add-assoc}
+use native.Mathlib.Numerals.{add-one}
+use native.Mathlib.Omega.{arith}
+use lib.ListN.{length, take, drop, set, length-append, length-drop, take-append-drop}
+use lib.Seq.{length-take-le, take-append-le, drop-append-le, take-add, drop-drop, take-at, drop-at, take-append-seam, set-split, take-set-le}
+use borrow.Rule.Slice.PartMut.{midOf, putMid}
+use Rattle.octets.specs.Lent.{overwrite}
+
+written : (l : List ℕ) (at : ℕ) (x : List ℕ) → overwrite l at x ≡ take at l ++ (x ++ drop (at + length x) l)
+unfolding overwrite
+written l at x = refl
+
+pub length-overwrite : (l : List ℕ) (at : ℕ) (x : List ℕ) → at + length x ≤ length l → length (overwrite l at x) ≡ length l
+unfolding overwrite
+length-overwrite l at x h =
+    let k : at ≤ length l = omega arith in
+    simp (length-append, length-drop, length-take-le at l k) (omega arith)
+
+pub overwrite-nil : (l : List ℕ) (at : ℕ) → overwrite l at [] ≡ l
+unfolding overwrite
+overwrite-nil l at = rw add-zero (take-append-drop at l)
+
+pub overwrite-one : (l : List ℕ) (at b : ℕ) → at < length l → overwrite l at (b ∷ []) ≡ set l at b
+unfolding overwrite
+overwrite-one l at b h = rw (add-one, set-split l at b h)
+
+head-length : (l : List ℕ) (at : ℕ) (x : List ℕ) → at ≤ length l → length (take at l ++ x) ≡ at + length x
+head-length l at x h = rw (length-append, length-take-le at l h)
+
+-- what stands up to the end of a write, and behind it
+pub take-written : (l : List ℕ) (at : ℕ) (x : List ℕ) → at ≤ length l → take (at + length x) (overwrite l at x) ≡ take at l ++ x
+take-written l at x h = rw (written, ← append-assoc) (take-at (take at l ++ x) (drop (at + length x) l) (at + length x) (head-length l at x h))
+
+pub drop-written : (l : List ℕ) (at : ℕ) (x : List ℕ) → at ≤ length l → drop (at + length x) (overwrite l at x) ≡ drop (at + length x) l
+drop-written l at x h = rw (written, ← append-assoc) (drop-at (take at l ++ x) (drop (at + length x) l) (at + length x) (head-length l at x h))
+
+-- behind a write, so far or further, all is as it was
+pub drop-past : (l : List ℕ) (at : ℕ) (x : List ℕ) (n : ℕ) → at ≤ length l → drop (at + length x + n) (overwrite l at x) ≡ drop (at + length x + n) l
+drop-past l at x n h = sym (drop-drop n (at + length x) (overwrite l at x)) ∙ ap (drop n) (drop-written l at x h) ∙ drop-drop n (at + length x) l
+
+pub overwrite-append : (l : List ℕ) (at : ℕ) (x y : List ℕ) → at + (length x + length y) ≤ length l → overwrite (overwrite l at x) (at + length x) y ≡ overwrite l at (x ++ y)
+overwrite-append l at x y h =
+    let k : at ≤ length l = omega arith in
+    written (overwrite l at x) (at + length x) y
+    ∙ rw (take-written l at x k, drop-past l at x (length y) k, append-assoc, add-assoc)
+    (rw (written l at (x ++ y), length-append, append-assoc))
+
+pub overwrite-cons : (l : List ℕ) (at b : ℕ) (y : List ℕ) → at + suc (length y) ≤ length l → overwrite (set l at b) (at + 1) y ≡ overwrite l at (b ∷ y)
+overwrite-cons l at b y h =
+    let k : at < length l = omega arith in
+    let g : at + (1 + length y) ≤ length l = omega arith in
+    rw (← overwrite-one l at b k) (overwrite-append l at (b ∷ []) y g)
+
+-- the last byte first, and then those before it
+pub overwrite-snoc : (l : List ℕ) (at : ℕ) (x : List ℕ) (b : ℕ) → at + length x < length l → overwrite (set l (at + length x) b) at x ≡ overwrite l at (x ++ b ∷ [])
+overwrite-snoc l at x b h =
+    let n = at + length x in
+    let k : at ≤ n = omega arith in
+    let e : drop n (set l n b) ≡ b ∷ drop (suc n) l = rw (set-split l n b h) (drop-at (take n l) (b ∷ drop (suc n) l) n (length-take-le n l (omega arith))) in
+    let m : suc n ≡ at + length (x ++ b ∷ []) = simp length-append (omega arith) in
+    rw (written (set l n b) at x, take-set-le at l n b k, e, m, written l at (x ++ b ∷ []), append-assoc)
+
+pub overwrite-front : (l x : List ℕ) → overwrite l 0 x ≡ x ++ drop (length x) l
+unfolding overwrite
+overwrite-front l x = rw zero-add
+
+-- a write into what lies behind `a`
+pub overwrite-part : (l : List ℕ) (a at : ℕ) (x : List ℕ) → take a l ++ overwrite (drop a l) at x ≡ overwrite l (a + at) x
+unfolding overwrite
+overwrite-part l a at x = rw (drop-drop, take-add, append-assoc, add-assoc)
+
+-- a write within the first of two lists
+pub overwrite-left : (l r : List ℕ) (at : ℕ) (x : List ℕ) → at + length x ≤ length l → overwrite l at x ++ r ≡ overwrite (l ++ r) at x
+unfolding overwrite
+overwrite-left l r at x h =
+    let k : at ≤ length l = omega arith in
+    rw (take-append-le at l r k, drop-append-le (at + length x) l r h, append-assoc, append-assoc)
+
+-- what is back where `&mut l[..e]` was lent
+pub overwrite-prefix : (l : List ℕ) (e at : ℕ) (x : List ℕ) → at + length x ≤ e → e ≤ length l → overwrite (take e l) at x ++ drop e l ≡ overwrite l at x
+overwrite-prefix l e at x h k =
+    let g : at + length x ≤ length (take e l) = rw (length-take-le e l k) h in
+    overwrite-left (take e l) (drop e l) at x g ∙ ap (λ b. overwrite b at x) (take-append-drop e l)
+
+-- what is back where `&mut l[a..e]` was lent, with `k` for `e - a`; `&mut l[a..]` is the case where `e` is the length
+pub overwrite-mid : (l : List ℕ) (a k at : ℕ) (x : List ℕ) → at + length x ≤ k → a + k ≤ length l → putMid a k l (overwrite (midOf a k l) at x) ≡ overwrite l (a + at) x
+overwrite-mid l a k at x h g =
+    let m : k ≤ length (drop a l) = simp length-drop (omega arith) in
+    ap (λ b. take a l ++ b) (overwrite-prefix (drop a l) k at x h m) ∙ overwrite-part l a at x
+
+pub take-overwrite : (l : List ℕ) (at : ℕ) (x : List ℕ) → at + length x ≤ length l → take (length x) (drop at (overwrite l at x)) ≡ x
+take-overwrite l at x h =
+    let k : at ≤ length l = omega arith in
+    rw (written, drop-at (take at l) (x ++ drop (at + length x) l) at (length-take-le at l k)) (take-append-seam x (drop (at + length x) l))
+
+pub take-overwrite-front : (l x : List ℕ) → take (length x) (overwrite l 0 x) ≡ x
+take-overwrite-front l x = rw overwrite-front (take-append-seam x (drop (length x) l))

@@ -1,0 +1,15 @@
+-- What a function answers and leaves in the buffer that it is lent, as one value: every writer's promise is an equation of two outcomes.
+use Prim.Native.Nat.{ℕ, _+_}
+use mathlib.Core.List.{List, _++_}
+use lib.ListN.{length, take, drop}
+
+pub record Outcome (A : Type 0) : Type 0 where
+  pub answer : A
+  pub lent : List ℕ
+
+abbrev pub outcome : {A : Type 0} → A → List ℕ → Outcome A
+outcome a l = record { answer = a; lent = l }
+
+-- a buffer with bytes put at a place: everything before and behind them is as it was
+unfoldable pub overwrite : List ℕ → ℕ → List ℕ → List ℕ
+overwrite buffer at bytes = take at buffer ++ (bytes ++ drop (at + length bytes) buffer)

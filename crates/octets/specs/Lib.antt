@@ -1,0 +1,4 @@
+pub mod Choice
+pub mod Decimal
+pub mod Lent
+pub mod Promise
