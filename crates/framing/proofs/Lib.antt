@@ -1,7 +1,9 @@
 pub mod Stretch
 pub mod Unroll
 pub mod RoundTrip
-pub mod Records
+pub mod Between
 pub mod Widths
 pub mod Places
 pub mod Carried
+pub mod Gathering
+pub mod Writing

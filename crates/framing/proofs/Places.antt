@@ -1,24 +1,23 @@
 -- What stands at a place, by the bytes there: the laws that each way out of the reader cites. Assumes nothing.
 use mathlib.Core.Path.{_≡_, refl, sym, ap, _∙_}
 use mathlib.Core.Bool.{Bool, true, false}
-use mathlib.Core.List.{List, [], _∷_, _++_}
-use Prim.Native.Nat.{ℕ, zero, suc, _+_, _≤_, _<_}
+use mathlib.Core.List.{List, [], _∷_}
+use Prim.Native.Nat.{ℕ, suc, _+_, _≤_, _<_}
 use native.Mathlib.Nat.{add-assoc}
 use native.Mathlib.Omega.{arith}
-use native.Mathlib.Numerals.{add-one}
 use lib.ListN.{length, drop, getD, length-append, length-drop, drop-of-length-le}
 use lib.Seq.{drop-drop}
-use lib.Dec.{eqb, ltb}
+use lib.Dec.{eqb}
 use borrow.Author.Tests.{eq-eqb, ne-eqb, lt-ltb, le-ltb}
+use Rattle.octets.specs.Choice.{if_then_else_}
 use Rattle.refusal.specs.Refusal.{cutShort, payloadTooLong, undoubled as undoubledIac, pastTheEnd}
 use Rattle.framing.specs.declared.Verb.{Verb}
 use Rattle.framing.specs.declared.Lead.{Lead}
-use Rattle.framing.specs.declared.Answer.{Answer}
 use Rattle.framing.specs.declared.Answer.the-variants.{End, Found, Refused}
-use Rattle.framing.specs.declared.Kind.the-variants.{Data, Command, Negotiation, Subnegotiation}
-use Rattle.framing.specs.Event.{run, subnegotiation, lead, se, payloadLimit}
+use Rattle.framing.specs.declared.Kind.the-variants.{Data, Negotiation, Subnegotiation}
+use Rattle.framing.specs.Event.{subnegotiation, lead, iac, se, payloadLimit}
 use Rattle.framing.specs.Write.{doubled, written}
-use Rattle.framing.specs.Read.{undoubled, negotiated, opened, closed, commanded, led, eventOf, runOr, Front, found}
+use Rattle.framing.specs.Read.{undoubled, negotiated, opened, closed, commanded, led, eventOf, runOr, Front}
 use Rattle.framing.specs.Scan.{count, span}
 use Rattle.framing.specs.Promise.{answered, lookAt}
 use Rattle.framing.proofs.Stretch.{stretch}
@@ -27,6 +26,16 @@ use Rattle.framing.proofs.Widths.{at-front, pair-front}
 pub empty : (l : List ℕ) → length l ≡ 0 → l ≡ []
 empty [] h = refl
 empty (x ∷ l) h = absurd (omega arith)
+
+-- doubling takes no byte away
+pub doubled-longer : (d : List ℕ) → length d ≤ length (doubled d)
+unfolding doubled
+doubled-longer [] = omega arith
+doubled-longer (b ∷ d) = go (eqb b iac) (doubled-longer d)
+  where
+    go : (t : Bool) → length d ≤ length (doubled d) → suc (length d) ≤ length (if t then b ∷ b ∷ doubled d else b ∷ doubled d)
+    go true h = omega arith
+    go false h = omega arith
 
 -- a stretch lies within its bytes
 pub span-within : (bs : List ℕ) → span bs ≤ length bs
@@ -107,7 +116,7 @@ module _ (s : List ℕ) (at : ℕ) where
   unfolding lookAt
   look-past h = rw (lt-ltb (length s) at h)
 
-  looked : at ≤ length s → lookAt s at ≡ answered at (eventOf (drop at s))
+  pub looked : at ≤ length s → lookAt s at ≡ answered at (eventOf (drop at s))
   unfolding lookAt
   looked h = rw (le-ltb (length s) at h)
 

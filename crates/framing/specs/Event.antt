@@ -1,9 +1,9 @@
 -- The events of a Telnet line as values that hold what they carry (specification, "Framing"; RFC 854, "TELNET COMMAND STRUCTURE"; RFC 855;
 -- RFC 885). Numbers stand for bytes.
 use Prim.Native.Nat.{ℕ}
-use mathlib.Core.Bool.{Bool, true, false, _&&_, _||_}
+use mathlib.Core.Bool.{_||_}
 use mathlib.Core.List.{List, []}
-use lib.Dec.{eqb, ltb, leb}
+use lib.Dec.{eqb, ltb}
 use Rattle.framing.specs.declared.Verb.{Verb}
 use Rattle.framing.specs.declared.Verb.the-variants.{Will, Wont, Do, Dont}
 use Rattle.framing.specs.declared.Lead.{Lead}

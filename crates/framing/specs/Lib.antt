@@ -5,4 +5,5 @@ pub mod Scan
 pub mod Whole
 pub mod Record
 pub mod Promise
+pub mod Gather
 pub mod Theorems

@@ -1,6 +1,5 @@
 -- Reading one event (specification, "Framing" and the framing part of "Refusal numbers").
 use Prim.Native.Nat.{ℕ}
-use mathlib.Core.Bool.{Bool, true, false}
 use mathlib.Core.List.{List, [], _∷_}
 use lib.Dec.{eqb, ltb}
 use lib.ListN.{length, drop}
@@ -8,7 +7,7 @@ use Rattle.framing.specs.declared.Verb.{Verb}
 use Rattle.framing.specs.declared.Lead.{Lead}
 use Rattle.framing.specs.declared.Lead.the-variants.{Faulty, Opens, Negotiates, Simple}
 use Rattle.framing.specs.Event.{Event, run, command, negotiation, subnegotiation, lead, iac, se, payloadLimit}
-use Rattle.framing.specs.Write.{doubled, written}
+use Rattle.framing.specs.Write.{doubled}
 use Rattle.refusal.specs.Refusal.{cutShort, undoubled as undoubledIac, payloadTooLong, badCommand}
 use Rattle.octets.specs.Choice.{if_then_else_}
 

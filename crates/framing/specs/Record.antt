@@ -1,12 +1,12 @@
 -- Records: all data between two end-of-record events (specification, "Framing"; RFC 885). "Record" is the specification's own term.
 use Prim.Native.Nat.{ℕ, _+_}
-use mathlib.Core.Bool.{Bool, true, false}
+use mathlib.Core.Bool.{Bool, false}
 use mathlib.Core.List.{List, [], _∷_, _++_}
 use lib.Dec.{eqb}
 use lib.ListN.{length}
 use Rattle.framing.specs.Event.{Event, run, command, negotiation, subnegotiation, eor}
 use Rattle.framing.specs.Write.{written}
-use Rattle.framing.specs.Whole.{Ending, Reading, reading}
+use Rattle.framing.specs.Whole.{Ending, reading}
 use Rattle.octets.specs.Choice.{if_then_else_}
 
 -- 255 239

@@ -1,14 +1,14 @@
 -- What holds of every list of events and of every list of bytes (specification, "Framing": "Over lists of writable events with no two runs
 -- adjacent, reading what was written gives the list; writing what was read without refusal gives the bytes"). The proofs are in
--- `proofs/RoundTrip.antt`, `proofs/Unroll.antt` and `proofs/Records.antt`.
+-- `proofs/RoundTrip.antt`, `proofs/Unroll.antt` and `proofs/Between.antt`.
 use mathlib.Core.Path.{_≡_}
 use mathlib.Core.Bool.{Bool, true, false, not, _&&_}
 use mathlib.Core.List.{List, [], _∷_, _++_}
 use Prim.Native.Nat.{ℕ, _+_}
 use lib.Dec.{T}
 use lib.ListN.{length, drop}
-use Rattle.framing.specs.Event.{Event, run, command, negotiation, subnegotiation, eor}
-use Rattle.framing.specs.Write.{written, writtenAll, writable}
+use Rattle.framing.specs.Event.{Event, run, command, negotiation, subnegotiation, iac, eor}
+use Rattle.framing.specs.Write.{doubled, written, writtenAll, writable}
 use Rattle.framing.specs.Read.{Front, end, found, refused, eventOf}
 use Rattle.framing.specs.Whole.{Ending, well, refusal, Reading, reads, before, reading}
 use Rattle.framing.specs.Record.{isEndOfRecord, dataOf, recordOf, complete}
@@ -58,3 +58,7 @@ abbrev pub RecordIsAllData : Type 0
 RecordIsAllData =
     (bs : List ℕ) (es fs : List Event) (how : Ending) → T (all (λ e. not (isEndOfRecord e)) es) → reading bs ≡ reads (es ++ command eor ∷ fs) how
     → (recordOf bs ≡ complete (allData es) (length (writtenAll es) + 2)) × (reading (drop (length (writtenAll es) + 2) bs) ≡ reads fs how)
+
+-- Data written as a run and an end-of-record are read back as that record, whatever bytes they hold.
+abbrev pub RecordReadsBack : Type 0
+RecordReadsBack = (d bs : List ℕ) → recordOf (doubled d ++ iac ∷ eor ∷ bs) ≡ complete d (length (doubled d) + 2)

@@ -2,7 +2,7 @@
 use Prim.Native.Nat.{ℕ}
 use mathlib.Core.Bool.{Bool, true, false, _&&_, _||_}
 use mathlib.Core.List.{List, [], _∷_, _++_}
-use lib.Dec.{eqb, ltb, leb}
+use lib.Dec.{eqb, leb}
 use lib.ListN.{length}
 use Rattle.framing.specs.Event.{Event, run, command, negotiation, subnegotiation, iac, sb, se, eor, code, payloadLimit}
 use Rattle.octets.specs.Choice.{if_then_else_}

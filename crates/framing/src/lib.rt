@@ -1,10 +1,14 @@
 // Telnet framing: the events and records of a line, read from bytes and written to bytes. The callers own every buffer; nothing is kept
 // between calls. What is right is said in `specs/`: start with `Event.antt`, `Write.antt` and `Read.antt`.
 mod reader;
+mod records;
 mod scan;
+mod writer;
 
 pub use reader::look;
 pub use reader::read;
+pub use records::read_record;
+pub use writer::write;
 
 // The option commands.
 pub enum Verb {

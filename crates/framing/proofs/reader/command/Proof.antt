@@ -1,5 +1,5 @@
 -- `framing::reader::command` meets its contract: what leads decides. Assumes nothing.
-use mathlib.Core.Path.{sym, ap, _∙_}
+use mathlib.Core.Path.{sym, _∙_}
 use native.Mathlib.Omega.{arith}
 use Rattle.framing.specs.declared.Lead.the-variants.{Faulty, Opens, Negotiates, Simple}
 use Rattle.framing.specs.Read.{led}
@@ -9,11 +9,6 @@ use Rattle.framing.proofs.Places.{commanded-cut, commanded-led}
 use borrow.Author.Needs.{needs}
 use Rattle.framing.proofs.reader.command.Statement.{statement}
 use Rattle.framing.proofs.reader.command.Tie as tie
-use Rattle.framing.proofs.reader.command.Reads as reads
-use Rattle.framing.proofs.reader.command.Lts as lts
-use Rattle.framing.proofs.reader.lead_of.Reads as lead-of-reads
-use Rattle.framing.proofs.reader.negotiation.Reads as negotiation-reads
-use Rattle.framing.proofs.reader.subnegotiation.Reads as subnegotiation-reads
 
 add-behind : tie.Need-add-behind
 add-behind c = search needs

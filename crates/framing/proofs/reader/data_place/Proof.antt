@@ -3,8 +3,6 @@ use native.Mathlib.Nat.{add-zero}
 use borrow.Author.Needs.{needs}
 use Rattle.framing.proofs.reader.data_place.Statement.{statement}
 use Rattle.framing.proofs.reader.data_place.Tie as tie
-use Rattle.framing.proofs.reader.data_place.Reads as reads
-use Rattle.framing.proofs.reader.data_place.Lts as lts
 
 enum-told : tie.Need-enum-told
 enum-told c = search needs

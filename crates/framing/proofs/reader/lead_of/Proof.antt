@@ -3,8 +3,6 @@ use borrow.Author.Tests.{lt-ltb, le-ltb, ne-eqb}
 use Rattle.framing.specs.Event.{lead}
 use Rattle.framing.proofs.reader.lead_of.Statement.{statement}
 use Rattle.framing.proofs.reader.lead_of.Tie as tie
-use Rattle.framing.proofs.reader.lead_of.Reads as reads
-use Rattle.framing.proofs.reader.lead_of.Lts as lts
 
 returns : tie.Need-returns
 unfolding lead

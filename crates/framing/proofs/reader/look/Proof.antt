@@ -1,5 +1,5 @@
 -- `framing::reader::look` meets its contract. Assumes nothing.
-use mathlib.Core.Path.{sym, ap, ap₂, _∙_}
+use mathlib.Core.Path.{sym, ap₂, _∙_}
 use native.Mathlib.Omega.{arith}
 use Rattle.framing.specs.declared.Answer.the-variants.{Found}
 use Rattle.framing.specs.declared.Kind.the-variants.{Data}
@@ -7,15 +7,11 @@ use Rattle.framing.proofs.Places.{look-past, look-run, look-end, look-c
 use borrow.Author.Needs.{needs}
 use Rattle.framing.proofs.reader.look.Statement.{statement}
 use Rattle.framing.proofs.reader.look.Tie as tie
-use Rattle.framing.proofs.reader.look.Reads as reads
-use Rattle.framing.proofs.reader.look.Lts as lts
-use Rattle.framing.proofs.reader.command.Reads as command-reads
-use Rattle.framing.proofs.scan.measure.Reads as measure-reads
 
 returns : tie.Need-returns
 returns c =
     let a = c .before .before .args in
-    sym (look-past (a .s .now) (a .at) (c .if1 .taken))
+    sym (look-past (a .s .now) (a .at) (omega arith))
 
 measure-requires : tie.Need-measure-requires
 measure-requires c κs = search needs

@@ -5,8 +5,6 @@ use Rattle.framing.proofs.Places.{negotiated-cut, negotiated-found}
 use borrow.Author.Needs.{needs}
 use Rattle.framing.proofs.reader.negotiation.Statement.{statement}
 use Rattle.framing.proofs.reader.negotiation.Tie as tie
-use Rattle.framing.proofs.reader.negotiation.Reads as reads
-use Rattle.framing.proofs.reader.negotiation.Lts as lts
 
 add-place : tie.Need-add-place
 add-place c = search needs

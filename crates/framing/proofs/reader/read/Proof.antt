@@ -1,12 +1,11 @@
 -- `framing::reader::read` meets its contract: it delivers what `look` finds. Assumes nothing.
 use mathlib.Core.Path.{_≡_, sym, ap, subst, _∙_}
 use mathlib.Core.List.{List}
-use Prim.Native.Nat.{ℕ, _+_, _≤_, _<_}
+use Prim.Native.Nat.{ℕ, _+_, _≤_}
 use native.Mathlib.Omega.{arith}
 use lib.ListN.{length, drop}
 use borrow.Author.Tests.{lt-ltb, le-ltb}
 use Rattle.octets.specs.Lent.{outcome, overwrite}
-use Rattle.refusal.specs.Refusal.{noRoom}
 use Rattle.framing.specs.declared.Kind.{Kind}
 use Rattle.framing.specs.declared.Answer.{Answer}
 use Rattle.framing.specs.declared.Answer.the-variants.{End, Found, Refused}
@@ -17,11 +16,6 @@ use Rattle.framing.proofs.Carried.{Placed, looked-placed, delivering, r
 use borrow.Author.Needs.{needs}
 use Rattle.framing.proofs.reader.read.Statement.{statement}
 use Rattle.framing.proofs.reader.read.Tie as tie
-use Rattle.framing.proofs.reader.read.Reads as reads
-use Rattle.framing.proofs.reader.read.Lts as lts
-use Rattle.framing.proofs.reader.data_place.Reads as data-place-reads
-use Rattle.framing.proofs.reader.look.Reads as look-reads
-use Rattle.framing.proofs.scan.copy_data.Reads as copy-data-reads
 
 -- what `read` leaves, where `look` answers r
 leaves : (s : List ℕ) (at : ℕ) (out : List ℕ) (r : Answer) → lookAt s at ≡ r → readAt s at out ≡ delivering s at out r
@@ -41,7 +35,7 @@ returns c =
     let a = c .before .before .before .before .before .before .before .args in
     let v = c .before .before .answer .given .0 in
     sym (leaves (a .s .now) (a .at) (a .out .now) (Found (v .0) (v .1 .0) (v .1 .1 .0)) (sym (c .before .before .before .before .look .ensures) ∙ c .before .before .answer .given .1)
-    ∙ rw (lt-ltb _ _ (c .if1 .taken)))
+    ∙ rw (lt-ltb (length (a .out .now)) (v .1 .0) (omega arith)))
 
 data-place-requires : tie.Need-data-place-requires
 data-place-requires c κs =
@@ -65,7 +59,7 @@ returns-2 c =
     let v = c .before .before .before .before .before .before .before .answer .given .0 in
     let r = Found (v .0) (v .1 .0) (v .1 .1 .0) in
     ap (outcome r) (c .before .before .copy-data .ensures ∙ ap (λ i. overwrite (a .out .now) 0 (undoubled (drop i (a .s .now)))) (c .before .before .before .before .data-place .ensures))
-    ∙ sym (leaves (a .s .now) (a .at) (a .out .now) r (sym (c .before .before .before .before .before .before .before .before .before .look .ensures) ∙ c .before .before .before .before .before .before .before .answer .given .1) ∙ rw (le-ltb _ _ (c .before .before .before .before .before .if1 .left)))
+    ∙ sym (leaves (a .s .now) (a .at) (a .out .now) r (sym (c .before .before .before .before .before .before .before .before .before .look .ensures) ∙ c .before .before .before .before .before .before .before .answer .given .1) ∙ rw (le-ltb (length (a .out .now)) (v .1 .0) (omega arith)))
 
 enum-told : tie.Need-enum-told
 enum-told c = search needs

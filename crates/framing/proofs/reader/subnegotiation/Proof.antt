@@ -9,9 +9,6 @@ use Rattle.framing.proofs.Places.{opened-cut, opened-long, opened-short
 use borrow.Author.Needs.{needs}
 use Rattle.framing.proofs.reader.subnegotiation.Statement.{statement}
 use Rattle.framing.proofs.reader.subnegotiation.Tie as tie
-use Rattle.framing.proofs.reader.subnegotiation.Reads as reads
-use Rattle.framing.proofs.reader.subnegotiation.Lts as lts
-use Rattle.framing.proofs.scan.measure.Reads as measure-reads
 
 add-place : tie.Need-add-place
 add-place c = search needs

@@ -1,25 +1,19 @@
 -- `framing::scan::copy_data` meets its contract: what the stretch still has from here, written where the loop stands, gives the whole.
 -- Assumes nothing.
-use mathlib.Core.Path.{_≡_, refl, sym, _∙_, ap}
-use mathlib.Core.List.{List, [], _∷_}
-use Prim.Native.Nat.{ℕ, _+_, _-_, _≤_, _<_}
+use mathlib.Core.Path.{_≡_, sym, _∙_, ap}
+use mathlib.Core.List.{List, []}
+use Prim.Native.Nat.{ℕ, _+_, _-_, _≤_}
 use native.Mathlib.Omega.{arith}
-use lib.ListN.{length, drop, getD, set, length-set}
+use lib.ListN.{length, drop, getD, length-set}
 use borrow.Author.Needs.{needs}
 use Rattle.octets.specs.Lent.{overwrite}
 use Rattle.octets.proofs.Overwrite.{overwrite-nil, overwrite-cons}
 use Rattle.framing.specs.Read.{undoubled}
 use Rattle.framing.specs.Scan.{count as count·of}
+use Rattle.framing.proofs.Places.{empty}
 use Rattle.framing.proofs.Widths.{Next, some-next}
 use Rattle.framing.proofs.scan.copy_data.Statement.{statement}
 use Rattle.framing.proofs.scan.copy_data.Tie as tie
-use Rattle.framing.proofs.scan.copy_data.Reads as reads
-use Rattle.framing.proofs.scan.copy_data.Lts as lts
-use Rattle.framing.proofs.scan.width_at.Reads as width-at-reads
-
-empty : (l : List ℕ) → length l ≡ 0 → l ≡ []
-empty [] h = refl
-empty (x ∷ l) h = absurd (omega arith)
 
 abbrev data-left : List ℕ → ℕ → ℕ
 data-left s i = length (undoubled (drop i s))

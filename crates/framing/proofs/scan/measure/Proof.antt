@@ -1,17 +1,13 @@
 -- `framing::scan::measure` meets its contract: what the stretch still has from here, with what was passed, is the whole. Assumes nothing.
-use mathlib.Core.Path.{_≡_, sym, _∙_, ap}
-use Prim.Native.Nat.{ℕ, _+_, _-_, _≤_, _<_}
+use mathlib.Core.Path.{_≡_, sym, _∙_}
+use Prim.Native.Nat.{_+_, _-_, _≤_}
 use native.Mathlib.Omega.{arith}
-use mathlib.Core.List.{List}
 use lib.ListN.{length, drop}
 use borrow.Author.Needs.{needs}
 use Rattle.framing.specs.Scan.{count, span}
 use Rattle.framing.proofs.Widths.{Next, next, none-next, width-end}
 use Rattle.framing.proofs.scan.measure.Statement.{statement}
 use Rattle.framing.proofs.scan.measure.Tie as tie
-use Rattle.framing.proofs.scan.measure.Reads as reads
-use Rattle.framing.proofs.scan.measure.Lts as lts
-use Rattle.framing.proofs.scan.width_at.Reads as width-at-reads
 
 abbrev Inv-loop : tie.InvT-loop
 Inv-loop s at i₀ n₀ i n =

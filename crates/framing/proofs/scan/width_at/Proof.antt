@@ -5,8 +5,6 @@ use borrow.Author.Needs.{needs}
 use Rattle.framing.proofs.Widths.{width-end, width-plain, width-last, width-stop, width-pair}
 use Rattle.framing.proofs.scan.width_at.Statement.{statement}
 use Rattle.framing.proofs.scan.width_at.Tie as tie
-use Rattle.framing.proofs.scan.width_at.Reads as reads
-use Rattle.framing.proofs.scan.width_at.Lts as lts
 
 -- src/scan.rt:20:9
 returns : tie.Need-returns

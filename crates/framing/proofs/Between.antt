@@ -1,21 +1,22 @@
--- A record is all data up to the next end-of-record, and reading goes on behind it (`record-is-all-data`, the theorem
--- `Theorems.RecordIsAllData`). Assumes nothing.
+-- A record is all data up to the next end-of-record, and reading goes on behind it (`record-is-all-data`); written, it is read back
+-- (`record-reads-back`): the theorems `Theorems.RecordIsAllData` and `Theorems.RecordReadsBack`. Assumes nothing.
 use mathlib.Core.Path.{_≡_, refl, sym, ap, _∙_}
 use mathlib.Core.Bool.{Bool, true, false, not}
-use mathlib.Core.List.{List, [], _∷_, _++_}
+use mathlib.Core.List.{List, [], _∷_, _++_, append-nil}
 use Prim.Native.Nat.{ℕ, _+_}
 use native.Mathlib.Nat.{add-assoc}
 use lib.Dec.{T}
 use lib.ListN.{length, drop, length-append}
 use lib.Seq.{drop-drop}
 use mir.Facts.{and-yes}
-use Rattle.framing.specs.Event.{Event, command, eor}
-use Rattle.framing.specs.Write.{written, writtenAll}
+use Rattle.framing.specs.Event.{Event, command, iac, eor, lead}
+use Rattle.framing.specs.Write.{doubled, written, writtenAll}
 use Rattle.framing.specs.Read.{Front, end, found, refused, eventOf}
-use Rattle.framing.specs.Whole.{Ending, Reading, reads, reading}
+use Rattle.framing.specs.Whole.{Ending, Reading, reads, before, readingFrom, reading, step, ended, leads}
 use Rattle.framing.specs.Record.{isEndOfRecord, dataOf, Gathered, complete, joined, gathered, recordOf}
-use Rattle.framing.specs.Theorems.{all, continued, allData, RecordIsAllData}
-use Rattle.framing.proofs.Unroll.{unrolled}
+use Rattle.framing.specs.Theorems.{all, continued, allData, RecordIsAllData, RecordReadsBack}
+use Rattle.framing.proofs.Stretch.{at-command}
+use Rattle.framing.proofs.Unroll.{run-read, unrolled}
 use Rattle.octets.specs.Choice.{if_then_else_}
 
 same-reads : {es fs : List Event} {a b : Ending} → reads es a ≡ reads fs b → (es ≡ fs) × (a ≡ b)
@@ -69,3 +70,19 @@ record-is-all-data bs es fs how t h = (
   rw (← drop-drop 2 (length (writtenAll es)) bs)
       (behind-first (drop (length (writtenAll es)) bs) (command eor) fs how (behind-all bs es (command eor ∷ fs) how h)),
 )
+
+-- an end-of-record at the front
+ends-here : (bs : List ℕ) → reading (iac ∷ eor ∷ bs) ≡ before (command eor ∷ []) (reading bs)
+unfolding reading readingFrom step ended leads lead
+ends-here bs = refl
+
+ended-record : (d : List ℕ) (es : List Event) (how : Ending)
+    → gathered (ended d ++ command eor ∷ es) how ≡ complete d (length (doubled d) + 2)
+unfolding gathered joined isEndOfRecord dataOf ended written doubled
+ended-record [] es how = refl
+ended-record (x ∷ d) es how = rw append-nil
+
+pub record-reads-back : RecordReadsBack
+unfolding recordOf
+record-reads-back d bs =
+    rw (run-read d (iac ∷ eor ∷ bs) (at-command refl refl), ends-here bs) (ended-record d (reading bs .events) (reading bs .ending))
