@@ -7,3 +7,4 @@ pub mod Places
 pub mod Carried
 pub mod Gathering
 pub mod Writing
+pub mod Lines

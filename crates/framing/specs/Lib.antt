@@ -7,3 +7,4 @@ pub mod Record
 pub mod Promise
 pub mod Gather
 pub mod Theorems
+pub mod Worked

@@ -13,7 +13,7 @@ pub struct Extent {
 }
 
 // How many bytes of the line the data byte at a place takes: two for a doubled 255, none where no data byte stands there.
-pub fn width_at(s: &[u8], at: usize) -> usize
+pub(crate) fn width_at(s: &[u8], at: usize) -> usize
     ensures { λ r. ⌜ r ≡ width (drop at (now (s .entry))) ⌝ }
 {
     if s.len() <= at {
@@ -32,7 +32,7 @@ pub fn width_at(s: &[u8], at: usize) -> usize
 }
 
 // The longest stretch of data at a place.
-pub fn measure(s: &[u8], at: usize) -> Extent
+pub(crate) fn measure(s: &[u8], at: usize) -> Extent
     requires { ⌜ at ≤ length (now s) ⌝ }
     ensures { λ r. ⌜ IsExtent (now (s .entry)) at r ⌝ }
 {
@@ -50,7 +50,7 @@ pub fn measure(s: &[u8], at: usize) -> Extent
 }
 
 // Copies the stretch of data at a place, each doubled 255 as one, to a place of the buffer. `count` is the stretch's.
-pub fn copy_data(s: &[u8], from: usize, count: usize, out: &mut [u8], to: usize)
+pub(crate) fn copy_data(s: &[u8], from: usize, count: usize, out: &mut [u8], to: usize)
     requires { ⌜ (count ≡ length (undoubled (drop from (now s)))) × (to + count ≤ length (now out)) ⌝ }
     ensures { λ _. ⌜ now (out .exit) ≡ overwrite (now (out .entry)) to (undoubled (drop from (now (s .entry)))) ⌝ }
 {

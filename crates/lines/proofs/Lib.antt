@@ -1,0 +1,4 @@
+pub mod Put
+pub mod Given
+pub mod Lines
+pub mod Sample

@@ -1,0 +1,4 @@
+pub mod Listing
+pub mod Put
+pub mod Promise
+pub mod Sample
