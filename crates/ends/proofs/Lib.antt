@@ -1,0 +1,6 @@
+pub mod Reached
+pub mod Course
+pub mod Agreement
+pub mod Turns
+pub mod Whole
+pub mod Worked

@@ -1,0 +1,5 @@
+pub mod Ends
+pub mod Agreement
+pub mod Replay
+pub mod Turn
+pub mod Worked

@@ -1,0 +1,4 @@
+pub mod Masks
+pub mod Completing
+pub mod HeardBack
+pub mod Worked

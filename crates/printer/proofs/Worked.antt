@@ -1,0 +1,24 @@
+-- Frames at the limits: ten bytes with LL 04 and 05, by computation, and more than 65,535 bytes; and print complete on the line.
+-- Assumes nothing.
+use mathlib.Core.Path.{refl}
+use Prim.Native.Nat.{_<_}
+use native.Mathlib.Omega.{arith}
+use lib.ListN.{length}
+use borrow.Author.Tests.{le-ltb, ne-eqb}
+use Rattle.printer.specs.Frame.{structureLength, goes, isFlow, directionOf, isReserved, isOperation, operationOf, headerOf, frameOf}
+use Rattle.printer.specs.Ledger.{printComplete}
+use Rattle.printer.specs.Theorems.{PrintCompleteReadsBack, TooLongToSay, HeaderOfTenBytes}
+use Rattle.framing.specs.Write.{doubled, written, writtenAll}
+use Rattle.framing.proofs.Between.{record-reads-back}
+
+pub header-of-ten-bytes : HeaderOfTenBytes
+unfolding goes isFlow directionOf isReserved isOperation operationOf headerOf frameOf
+header-of-ten-bytes = record { four = refl; five = refl }
+
+pub too-long-to-say : TooLongToSay
+unfolding frameOf
+too-long-to-say f high low long = rw (le-ltb (length f) 10 (omega arith), ne-eqb (structureLength f) (length f) (λ e. omega arith))
+
+pub print-complete-reads-back : PrintCompleteReadsBack
+unfolding doubled written writtenAll
+print-complete-reads-back bs = record-reads-back printComplete bs

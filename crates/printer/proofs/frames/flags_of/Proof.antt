@@ -1,0 +1,10 @@
+-- `printer::frames::flags_of` meets its contract: each mask tests its bit. Assumes nothing.
+use Rattle.printer.proofs.Masks.{one-bit}
+use Rattle.printer.proofs.frames.flags_of.Statement.{statement}
+use Rattle.printer.proofs.frames.flags_of.Tie as tie
+
+returns : tie.Need-returns
+returns c = let b = c .args .flags in rw (one-bit b 7, one-bit b 6, one-bit b 5, one-bit b 4, one-bit b 3)
+
+pub flags-of-spec : {M : Type 1} → statement M
+flags-of-spec = tie.close (tie.spec returns)

@@ -1,0 +1,4 @@
+pub mod Frame
+pub mod Ledger
+pub mod History
+pub mod Theorems
