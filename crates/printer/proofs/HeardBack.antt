@@ -1,10 +1,10 @@
 -- Every list of calls from fresh is heard back as `Theorems.HeardBack` says, by induction on the list: each call keeps the balance of what
 -- was accepted with what was completed, cleared and is held. Assumes nothing.
 use mathlib.Core.Path.{_≡_, refl}
-use mathlib.Core.Bool.{Bool, true, false, not}
+use mathlib.Core.Bool.{not}
 use mathlib.Core.Logic.{_↔_}
 use mathlib.Core.List.{List, [], _∷_}
-use Prim.Native.Nat.{ℕ, _+_, _≤_, _<_}
+use Prim.Native.Nat.{ℕ, _+_, _≤_}
 use native.Mathlib.Omega.{arith}
 use lib.Dec.{T, ltb}
 use lib.ListN.{length}
@@ -26,7 +26,7 @@ use Rattle.printer.specs.Frame.{frameOf}
 use Rattle.printer.specs.Ledger.{fresh, taken, answered, takeFrame, printComplete, completeInto}
 use Rattle.printer.specs.History.{Call, frame, completion, after, isHeld, isCleared, isRefused, isWritten}
 use Rattle.printer.specs.History.{accepts, clears, completes, refused, one, count, run, held}
-use Rattle.printer.specs.Theorems.{HeardBack, PrintsAreHeardBack}
+use Rattle.printer.specs.Theorems.{PrintsAreHeardBack}
 
 -- what a frame makes of a ledger: a print that is accepted is held, a record that is cleared was
 abbrev Balanced : Ledger → Taken → Type 0

@@ -1,7 +1,6 @@
 -- Frames at the limits: ten bytes with LL 04 and 05, by computation, and more than 65,535 bytes; and print complete on the line.
 -- Assumes nothing.
 use mathlib.Core.Path.{refl}
-use Prim.Native.Nat.{_<_}
 use native.Mathlib.Omega.{arith}
 use lib.ListN.{length}
 use borrow.Author.Tests.{le-ltb, ne-eqb}

@@ -1,7 +1,6 @@
 -- The print ledger (specification, "Printer frames"). "Ledger" is the specification's own term, and so is "record" for what it holds: the
 -- print record of RFC 4777, section 11.1. The ledger keeps that one is held, not its bytes.
 use Prim.Native.Nat.{ℕ}
-use mathlib.Core.Bool.{Bool, true, false}
 use mathlib.Core.List.{List, [], _∷_}
 use lib.Dec.{ltb}
 use lib.ListN.{length}

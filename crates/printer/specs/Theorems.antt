@@ -1,7 +1,7 @@
 -- What holds of every history of a ledger from fresh, of print complete on the line, and of frames at the limits, the specification's
 -- worked line among them. The proofs are in `proofs/HeardBack.antt` and `proofs/Worked.antt`.
 use mathlib.Core.Path.{_≡_}
-use mathlib.Core.Bool.{Bool, true, false}
+use mathlib.Core.Bool.{false}
 use mathlib.Core.Logic.{_↔_}
 use mathlib.Core.List.{List, [], _∷_, _++_}
 use Prim.Native.Nat.{ℕ, _+_, _≤_, _<_}

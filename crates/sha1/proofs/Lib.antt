@@ -1,0 +1,5 @@
+pub mod Rounds
+pub mod Schedule
+pub mod Chain
+pub mod Last
+pub mod Worked

@@ -1,0 +1,47 @@
+-- `sha1::compress::step` meets its contract: the calls are the round's own terms. Assumes nothing.
+use Rattle.sha1.specs.Sha1.{round}
+use borrow.Author.Needs.{needs}
+use Rattle.sha1.proofs.compress.step.Statement.{statement}
+use Rattle.sha1.proofs.compress.step.Tie as tie
+
+rotate-left-32-requires : tie.Need-rotate-left-32-requires
+rotate-left-32-requires c κs = search needs
+
+mix-requires : tie.Need-mix-requires
+mix-requires c κs = search needs
+
+sum-requires : tie.Need-sum-requires
+sum-requires c κs = search needs
+
+sum-requires-2 : tie.Need-sum-requires-2
+sum-requires-2 c κs = search needs
+
+constant-requires : tie.Need-constant-requires
+constant-requires c κs = search needs
+
+sum-requires-3 : tie.Need-sum-requires-3
+sum-requires-3 c κs = search needs
+
+sum-requires-4 : tie.Need-sum-requires-4
+sum-requires-4 c κs = search needs
+
+rotate-left-32-requires-2 : tie.Need-rotate-left-32-requires-2
+rotate-left-32-requires-2 c κs = search needs
+
+returns : tie.Need-returns
+unfolding round
+returns c = cc
+
+pub step-spec : {M : Type 1} → statement M
+step-spec =
+    tie.close
+    (tie.spec
+    rotate-left-32-requires
+    mix-requires
+    sum-requires
+    sum-requires-2
+    constant-requires
+    sum-requires-3
+    sum-requires-4
+    rotate-left-32-requires-2
+    returns)

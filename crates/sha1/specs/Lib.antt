@@ -1,0 +1,2 @@
+pub mod Sha1
+pub mod Code

@@ -1,0 +1,5 @@
+pub mod Word
+pub mod BigEndian
+pub mod Blocks
+pub mod Padding
+pub mod Tail
