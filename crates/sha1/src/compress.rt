@@ -129,7 +129,7 @@ fn compress(h: Words, block: &[u8]) -> Words
 }
 
 // The hash value after each whole block of `blocks`.
-pub fn absorb(h: Words, blocks: &[u8]) -> Words
+pub(crate) fn absorb(h: Words, blocks: &[u8]) -> Words
     ensures { λ r. ⌜ five r ≡ hashed (five h) (cut 64 (now (blocks .entry))) ⌝ }
 {
     let mut h = h;

@@ -5,7 +5,7 @@ ghost use lib.ListN.{length, take};
 ghost use Rattle.words.specs.Tail.{end, tail};
 
 // How many bytes these blocks have for the last `n` bytes of a message.
-pub fn end_of(n: usize) -> usize
+pub(crate) fn end_of(n: usize) -> usize
     requires { ⌜ n < 64 ⌝ }
     ensures { λ r. ⌜ r ≡ end 64 8 n ⌝ }
 {
@@ -13,7 +13,7 @@ pub fn end_of(n: usize) -> usize
 }
 
 // The blocks for a message of `count` bytes whose last ones are `rest`, and zeros behind them.
-pub fn last_blocks(rest: &[u8], count: u64) -> [u8; 128]
+pub(crate) fn last_blocks(rest: &[u8], count: u64) -> [u8; 128]
     requires { ⌜ length (now rest) < 64 ⌝ }
     ensures { λ r. ⌜ (length r ≡ 128) × (take (end 64 8 (length (now (rest .entry)))) r ≡ tail 64 8 (now (rest .entry)) (8 * count)) ⌝ }
 {

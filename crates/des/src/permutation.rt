@@ -1,0 +1,39 @@
+// Permutations by tables of places.
+use crate::tables::FINAL;
+use crate::tables::INITIAL;
+ghost use mathlib.Core.Path.{_≡_};
+ghost use Prim.Native.Nat.{_≤_};
+ghost use lib.Dec.{T};
+ghost use lib.ListN.{length};
+ghost use Rattle.des.specs.Blocks.{permuted};
+ghost use Rattle.des.specs.Near.{within};
+ghost use Rattle.des.specs.Tables.{IP, IP⁻¹};
+
+// What a table makes of a block of `width` bits.
+pub(crate) fn permute(x: u64, width: u32, places: &[u8]) -> u64
+    requires { ⌜ (width ≤ 64) × (length (now places) ≤ 64) × T (within width (now places)) ⌝ }
+    ensures { λ r. ⌜ r ≡ permuted width (now (places .entry)) x ⌝ }
+{
+    let mut out: u64 = 0;
+    let mut i = 0;
+    while i < places.len() {
+        let p = places[i] as u32;
+        out = (out << 1) | ((x >> (width - p)) & 1);
+        i += 1;
+    }
+    out
+}
+
+// The initial permutation.
+pub fn initial_permutation(x: u64) -> u64
+    ensures { λ r. ⌜ r ≡ permuted 64 IP x ⌝ }
+{
+    permute(x, 64, &INITIAL)
+}
+
+// The inverse of the initial permutation.
+pub fn final_permutation(x: u64) -> u64
+    ensures { λ r. ⌜ r ≡ permuted 64 IP⁻¹ x ⌝ }
+{
+    permute(x, 64, &FINAL)
+}
