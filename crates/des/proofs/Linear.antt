@@ -20,7 +20,8 @@ three p t x y z h i j = at (p x y) 2 (at (λ v. each (p x v) 2) 2 (at (λ u. eac
 
 digits-assoc : (x y z : ℕ) → x < 2 → y < 2 → z < 2 → differ (bitXor x y) z ≡ differ x (bitXor y z)
 digits-assoc x y z h i j =
-    eqb→eq (differ (bitXor x y) z) (differ x (bitXor y z)) (three (λ u v w. eqb (differ (bitXor u v) w) (differ u (bitXor v w))) tt x y z h i j)
+    eqb→eq (differ (bitXor x y) z) (differ x (bitXor y z))
+    (three (λ u v w. eqb (differ (bitXor u v) w) (differ u (bitXor v w))) tt x y z h i j)
 
 pub xor-assoc : (a b c : ℕ) → bitXor (bitXor a b) c ≡ bitXor a (bitXor b c)
 xor-assoc a =
@@ -66,7 +67,8 @@ and-spread a =
     ∙ ap₂ (λ (q r : ℕ). q * 2 + r)
     (ap (λ (q : ℕ). bitAnd q (m / 2)) (xor-shr n b 1) ∙ ih (b / 2) (m / 2) ∙ ap₂ bitXor (sym (and-shr n m 1)) (sym (and-shr b m 1)))
     (ap (λ (r : ℕ). min r (m % 2)) (xor-mod n b 1)
-    ∙ digits-spread (n % 2) (b % 2) (m % 2) (omega arith) (omega arith) (omega arith) ∙ ap₂ differ (sym (and-mod n m 1)) (sym (and-mod b m 1)))
+    ∙ digits-spread (n % 2) (b % 2) (m % 2) (omega arith) (omega arith) (omega arith)
+    ∙ ap₂ differ (sym (and-mod n m 1)) (sym (and-mod b m 1)))
     ∙ sym (xor-step (bitAnd n m) (bitAnd b m)))
     a
 

@@ -1,6 +1,6 @@
 // The DES known-answer tests of NIST SP 800-17 (encryption of one block: the sets variable plaintext, variable key, permutation and
-// substitution) and the example with key 133457799BBCDFF1, 172 in all. Each line of standard input is a key and a plaintext; they are written
-// out with the ciphertext computed, and `stdout` has the published one.
+// substitution) and the example with key 133457799BBCDFF1, 172 in all. Each line of standard input is a key and a plaintext; they are
+// written out with the ciphertext computed, and `stdout` has the published one.
 // Last comes the CBC example of FIPS 81 (key 0123456789ABCDEF, "Now is the time for all "), cut after no, one, two and three blocks. Its
 // initialization vector 1234567890ABCDEF is added to the first block, since the chain here starts from zeros.
 ghost use Prim.Native.Nat.{_≤_};

@@ -18,7 +18,8 @@ Inv-loop keys boxes blocks last₀ i₀ last i = (i ≤ length blocks) × (chain
 abbrev μ-loop : tie.MeasureT-loop
 μ-loop keys boxes blocks last₀ i₀ last i = length blocks - i
 
-one-more : (Ks : List (List ℕ)) (x : ℕ) (l : List ℕ) (i : ℕ) → i < length l → chained Ks x (drop i l) ≡ chained Ks (output Ks (bitXor x (getD l i 0))) (drop (i + 1) l)
+one-more : (Ks : List (List ℕ)) (x : ℕ) (l : List ℕ) (i : ℕ) → i < length l
+    → chained Ks x (drop i l) ≡ chained Ks (output Ks (bitXor x (getD l i 0))) (drop (i + 1) l)
 unfolding chained
 one-more Ks x l i h = rw (add-one, drop-cons l i 0 h)
 

@@ -34,7 +34,8 @@ behind a n i h k =
 room : (a b i : ℕ) → a < 2 ^ i → b < 2 → a * 2 + b < 2 ^ (i + 1)
 room a b i h k = rw (pow-add 2 i 1) (omega arith)
 
-one-more : (w x a : ℕ) (l : List ℕ) (i : ℕ) → i < length l → rest w x a (drop i l) ≡ rest w x (a * 2 + bit w x (getD l i 0)) (drop (i + 1) l)
+one-more : (w x a : ℕ) (l : List ℕ) (i : ℕ) → i < length l
+    → rest w x a (drop i l) ≡ rest w x (a * 2 + bit w x (getD l i 0)) (drop (i + 1) l)
 unfolding continued
 one-more w x a l i h = rw (add-one, drop-cons l i 0)
 

@@ -23,7 +23,8 @@ split-requires c κs = search needs
 returns : tie.Need-returns
 returns c =
     let s = c .before .before in
-    c .split .ensures ∙ ap groups (c .before .second-choice .ensures ∙ ap (permuted 56 PC-2) (joins (s .args .c) (s .args .d) (s .pre .0) (s .pre .1)))
+    let whole = ap (permuted 56 PC-2) (joins (s .args .c) (s .args .d) (s .pre .0) (s .pre .1)) in
+    c .split .ensures ∙ ap groups (c .before .second-choice .ensures ∙ whole)
 
 pub key-of-spec : {M : Type 1} → statement M
 key-of-spec = tie.close (tie.spec second-choice-requires split-requires returns)

@@ -36,7 +36,8 @@ first : (key : ℕ) → keysFrom (permuted 64 PC-1 key / 2 ^ 28) (permuted 64 PC
 unfolding roundKeys
 first key = refl
 
-stored : (keys : List (List ℕ)) (i : ℕ) (k : List ℕ) (rest : List (List ℕ)) → i < length keys → take (i + 1) (set keys i k) ++ rest ≡ take i keys ++ k ∷ rest
+stored : (keys : List (List ℕ)) (i : ℕ) (k : List ℕ) (rest : List (List ℕ)) → i < length keys
+    → take (i + 1) (set keys i k) ++ rest ≡ take i keys ++ k ∷ rest
 stored keys i k rest h = rw (add-one, take-suc-set keys i k h) (append-assoc (take i keys) (k ∷ []) rest)
 
 first-choice-requires : tie.Need-first-choice-requires Inv-loop μ-loop

@@ -1,9 +1,9 @@
 -- `des::schedule::shift_at` meets its contract: a computed test finds each iteration's number to be the standard's, and below 28.
 -- Assumes nothing.
-use mathlib.Core.Path.{_≡_}
-use Prim.Native.Nat.{_-_, _/_, _^_, _<_}
+use Prim.Native.Nat.{ℕ, _-_, _/_, _^_, _≤_}
+use native.Mathlib.Nat.{le-trans}
 use native.Mathlib.Omega.{arith}
-use lib.Bits.{bitAnd, mask-lt}
+use lib.Bits.{bitAnd, and-le-r}
 use lib.Dec.{eqb, eqb→eq, ltb, ltb→lt}
 use lib.ListN.{getD}
 use borrow.Author.Needs.{needs}
@@ -12,6 +12,9 @@ use Rattle.des.proofs.Each.{at}
 use Rattle.des.proofs.schedule.shift_at.Statement.{statement}
 use Rattle.des.proofs.schedule.shift_at.Tie as tie
 
+at-most : (n : ℕ) → bitAnd n 1 ≤ 2
+at-most n = le-trans (and-le-r n 1) (omega arith)
+
 cast-result : tie.Need-cast-result
 cast-result c = search needs
 
@@ -19,7 +22,7 @@ shr-result : tie.Need-shr-result
 shr-result c = search needs
 
 sub-result : tie.Need-sub-result
-sub-result c = omega (arith, mask-lt (0x8103 / 2 ^ c .args .i) 1)
+sub-result c = search (at-most, needs)
 
 returns : tie.Need-returns
 returns c =
