@@ -36,7 +36,9 @@ returns-8 : tie.Need-returns-8
 unfolding lead
 returns-8 c =
     let r = c .match .rest in
-    rw (le-ltb _ _ (c .before .if1 .left), ne-eqb _ _ (r .0 .0 .0 .0 .0 .1), ne-eqb _ _ (r .0 .0 .0 .0 .1), ne-eqb _ _ (r .0 .0 .0 .1), ne-eqb _ _ (r .0 .0 .1), ne-eqb _ _ (r .0 .1), ne-eqb _ _ (r .1))
+    let no = ne-eqb in
+    rw (le-ltb _ _ (c .before .if1 .left), no _ _ (r .0 .0 .0 .0 .0 .1), no _ _ (r .0 .0 .0 .0 .1), no _ _ (r .0 .0 .0 .1))
+    (rw (no _ _ (r .0 .0 .1), no _ _ (r .0 .1), no _ _ (r .1)))
 
 pub lead-of-spec : {M : Type 1} → statement M
 lead-of-spec =

@@ -34,20 +34,23 @@ returns : tie.Need-returns
 returns c =
     let a = c .before .before .before .before .before .before .before .args in
     let v = c .before .before .answer .given .0 in
-    sym (leaves (a .s .now) (a .at) (a .out .now) (Found (v .0) (v .1 .0) (v .1 .1 .0)) (sym (c .before .before .before .before .look .ensures) ∙ c .before .before .answer .given .1)
+    let e = sym (c .before .before .before .before .look .ensures) ∙ c .before .before .answer .given .1 in
+    sym (leaves (a .s .now) (a .at) (a .out .now) (Found (v .0) (v .1 .0) (v .1 .1 .0)) e
     ∙ rw (lt-ltb (length (a .out .now)) (v .1 .0) (omega arith)))
 
 data-place-requires : tie.Need-data-place-requires
 data-place-requires c κs =
     let a = c .before .before .before .before .before .before .before .args in
     let v = c .before .before .answer .given .0 in
-    omega (arith, placed (a .s .now) (a .at) (v .0) (v .1 .0) (v .1 .1 .0) (sym (c .before .before .before .before .look .ensures) ∙ c .before .before .answer .given .1))
+    let e = sym (c .before .before .before .before .look .ensures) ∙ c .before .before .answer .given .1 in
+    omega (arith, placed (a .s .now) (a .at) (v .0) (v .1 .0) (v .1 .1 .0) e)
 
 copy-data-requires : tie.Need-copy-data-requires
 copy-data-requires c κs =
     let a = c .before .before .before .before .before .before .before .before .before .args in
     let v = c .before .before .before .before .answer .given .0 in
-    let p = placed (a .s .now) (a .at) (v .0) (v .1 .0) (v .1 .1 .0) (sym (c .before .before .before .before .before .before .look .ensures) ∙ c .before .before .before .before .answer .given .1) in
+    let e = sym (c .before .before .before .before .before .before .look .ensures) ∙ c .before .before .before .before .answer .given .1 in
+    let p = placed (a .s .now) (a .at) (v .0) (v .1 .0) (v .1 .1 .0) e in
     (p .1 ∙ ap (λ i. length (undoubled (drop i (a .s .now)))) (sym (c .before .data-place .ensures)), omega arith)
 
 same-length : tie.Need-same-length
@@ -58,8 +61,9 @@ returns-2 c =
     let a = c .before .before .before .before .before .before .before .before .before .before .before .before .args in
     let v = c .before .before .before .before .before .before .before .answer .given .0 in
     let r = Found (v .0) (v .1 .0) (v .1 .1 .0) in
+    let e = sym (c .before .before .before .before .before .before .before .before .before .look .ensures) ∙ c .before .before .before .before .before .before .before .answer .given .1 in
     ap (outcome r) (c .before .before .copy-data .ensures ∙ ap (λ i. overwrite (a .out .now) 0 (undoubled (drop i (a .s .now)))) (c .before .before .before .before .data-place .ensures))
-    ∙ sym (leaves (a .s .now) (a .at) (a .out .now) r (sym (c .before .before .before .before .before .before .before .before .before .look .ensures) ∙ c .before .before .before .before .before .before .before .answer .given .1) ∙ rw (le-ltb (length (a .out .now)) (v .1 .0) (omega arith)))
+    ∙ sym (leaves (a .s .now) (a .at) (a .out .now) r e ∙ rw (le-ltb (length (a .out .now)) (v .1 .0) (omega arith)))
 
 enum-told : tie.Need-enum-told
 enum-told c = search needs
@@ -75,7 +79,8 @@ enum-known-answer-2 c = search needs
 returns-4 : tie.Need-returns-4
 returns-4 c =
     let a = c .before .before .before .before .before .before .args in
-    sym (leaves (a .s .now) (a .at) (a .out .now) (Refused (c .before .answer2 .given .0 .0)) (sym (c .before .before .before .look .ensures) ∙ c .before .answer2 .given .1))
+    let e = sym (c .before .before .before .look .ensures) ∙ c .before .answer2 .given .1 in
+    sym (leaves (a .s .now) (a .at) (a .out .now) (Refused (c .before .answer2 .given .0 .0)) e)
 
 pub read-spec : {M : Type 1} → statement M
 read-spec =

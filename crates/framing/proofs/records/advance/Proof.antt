@@ -16,7 +16,8 @@ further : (c : tie.After-data-length)
 further c =
     let a = c .before .before .before .before .before .before .before .before .args in
     let v = c .before .before .before .before .kind .given .0 in
-    let f = found-further (a .s .now) (a .at) (omega arith) (v .0) (v .1 .0) (v .1 .1 .0) (sym (c .before .before .before .before .before .before .look .ensures) ∙ c .before .before .before .before .kind .given .1) in
+    let e = sym (c .before .before .before .before .before .before .look .ensures) ∙ c .before .before .before .before .kind .given .1 in
+    let f = found-further (a .s .now) (a .at) (omega arith) (v .0) (v .1 .0) (v .1 .1 .0) e in
     (f .0, f .1, omega (arith, f, c .data-length .ensures))
 
 look-requires : tie.Need-look-requires
@@ -36,7 +37,8 @@ enum-known-n c = search needs
 returns-2 : tie.Need-returns-2
 returns-2 c =
     let a = c .before .before .before .before .before .args in
-    sized-refused (a .s .now) (a .at) (omega arith) (a .count) (c .before .n .given .0 .0) (sym (c .before .before .before .look .ensures) ∙ c .before .n .given .1)
+    let e = sym (c .before .before .before .look .ensures) ∙ c .before .n .given .1 in
+    sized-refused (a .s .now) (a .at) (omega arith) (a .count) (c .before .n .given .0 .0) e
 
 enum-known-kind : tie.Need-enum-known-kind
 enum-known-kind c = search needs
@@ -48,7 +50,8 @@ returns-3 : tie.Need-returns-3
 returns-3 c =
     let a = c .before .before .before .before .before .before .before .args in
     let v = c .before .before .before .kind .given .0 in
-    sized-ends (a .s .now) (a .at) (omega arith) (a .count) (v .0) (v .1 .0) (v .1 .1 .0) (sym (c .before .before .before .before .before .look .ensures) ∙ c .before .before .before .kind .given .1)
+    let e = sym (c .before .before .before .before .before .look .ensures) ∙ c .before .before .before .kind .given .1 in
+    sized-ends (a .s .now) (a .at) (omega arith) (a .count) (v .0) (v .1 .0) (v .1 .1 .0) e
     (sym (c .before .ends-record .ensures) ∙ c .if1 .taken)
 
 data-length-requires : tie.Need-data-length-requires

@@ -20,7 +20,8 @@ added c =
     let a = c .before .before .before .before .before .before .before .args in
     let p = c .before .before .before .before .before .before .before .pre in
     let v = c .before .before .kind .given .0 in
-    let d = data-goes (a .s .now) (a .at) (p .within) (v .0) (v .1 .0) (v .1 .1 .0) (sym (c .before .before .before .before .look .ensures) ∙ c .before .before .kind .given .1) (p .some) in
+    let e = sym (c .before .before .before .before .look .ensures) ∙ c .before .before .kind .given .1 in
+    let d = data-goes (a .s .now) (a .at) (p .within) (v .0) (v .1 .0) (v .1 .1 .0) e (p .some) in
     let all = ap length (d .1) ∙ length-append (undoubled (drop (a .at) (a .s .now))) (dataAt (a .s .now) (v .1 .1 .0)) in
     (c .data-length .ensures ∙ d .0, omega (arith, c .data-length .ensures, d .0))
 
@@ -70,7 +71,8 @@ returns-2 : tie.Need-returns-2
 returns-2 c =
     let a = c .before .before .before .before .before .args in
     let p = c .before .before .before .before .before .pre in
-    absurd (omega (arith, p .some, ap length (data-end (a .s .now) (a .at) (p .within) (sym (c .before .before .look .ensures) ∙ c .enum-told .given .1))))
+    let e = sym (c .before .before .look .ensures) ∙ c .enum-told .given .1 in
+    absurd (omega (arith, p .some, ap length (data-end (a .s .now) (a .at) (p .within) e)))
 
 enum-told-2 : tie.Need-enum-told-2
 enum-told-2 c = search needs
@@ -79,7 +81,8 @@ returns-3 : tie.Need-returns-3
 returns-3 c =
     let a = c .before .before .before .before .before .args in
     let p = c .before .before .before .before .before .pre in
-    absurd (omega (arith, p .some, ap length (data-refused (a .s .now) (a .at) (p .within) (c .enum-told2 .given .0 .0) (sym (c .before .before .look .ensures) ∙ c .enum-told2 .given .1))))
+    let e = sym (c .before .before .look .ensures) ∙ c .enum-told2 .given .1 in
+    absurd (omega (arith, p .some, ap length (data-refused (a .s .now) (a .at) (p .within) (c .enum-told2 .given .0 .0) e)))
 
 pub copy-event-spec : {M : Type 1} → statement M
 copy-event-spec =

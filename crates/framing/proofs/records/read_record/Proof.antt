@@ -34,13 +34,15 @@ returns-2 : tie.Need-returns-2
 returns-2 c =
     let a = c .before .before .before .before .before .before .before .before .args in
     let v = c .before .before .length .given .0 in
-    sym (leaves (a .s .now) (a .at) (a .out .now) (Complete (v .0) (v .1 .0)) (omega arith) (sym (c .before .before .before .before .find-record .ensures) ∙ c .before .before .length .given .1) ∙ rw (lt-ltb (length (a .out .now)) (v .0) (omega arith)))
+    let e = sym (c .before .before .before .before .find-record .ensures) ∙ c .before .before .length .given .1 in
+    sym (leaves (a .s .now) (a .at) (a .out .now) (Complete (v .0) (v .1 .0)) (omega arith) e ∙ rw (lt-ltb (length (a .out .now)) (v .0) (omega arith)))
 
 copy-record-requires : tie.Need-copy-record-requires
 copy-record-requires c κs =
     let a = c .before .before .before .before .before .before .before .before .before .args in
     let v = c .before .before .before .length .given .0 in
-    (omega arith, found-length (a .s .now) (a .at) (v .0) (v .1 .0) (sym (c .before .before .before .before .before .find-record .ensures) ∙ c .before .before .before .length .given .1), omega arith)
+    let e = sym (c .before .before .before .before .before .find-record .ensures) ∙ c .before .before .before .length .given .1 in
+    (omega arith, found-length (a .s .now) (a .at) (v .0) (v .1 .0) e, omega arith)
 
 same-length : tie.Need-same-length
 same-length c = search needs
@@ -50,8 +52,9 @@ returns-3 c =
     let a = c .before .before .before .before .before .before .before .before .before .before .before .before .args in
     let v = c .before .before .before .before .before .before .length .given .0 in
     let r = Complete (v .0) (v .1 .0) in
+    let e = sym (c .before .before .before .before .before .before .before .before .find-record .ensures) ∙ c .before .before .before .before .before .before .length .given .1 in
     ap (outcome r) (c .before .before .copy-record .ensures)
-    ∙ sym (leaves (a .s .now) (a .at) (a .out .now) r (omega arith) (sym (c .before .before .before .before .before .before .before .before .find-record .ensures) ∙ c .before .before .before .before .before .before .length .given .1) ∙ rw (le-ltb (length (a .out .now)) (v .0) (omega arith)))
+    ∙ sym (leaves (a .s .now) (a .at) (a .out .now) r (omega arith) e ∙ rw (le-ltb (length (a .out .now)) (v .0) (omega arith)))
 
 enum-told : tie.Need-enum-told
 enum-told c = search needs
@@ -59,7 +62,8 @@ enum-told c = search needs
 returns-4 : tie.Need-returns-4
 returns-4 c =
     let a = c .before .before .before .before .before .before .args in
-    sym (leaves (a .s .now) (a .at) (a .out .now) Unfinished (omega arith) (sym (c .before .before .find-record .ensures) ∙ c .enum-told .given .1))
+    let e = sym (c .before .before .find-record .ensures) ∙ c .enum-told .given .1 in
+    sym (leaves (a .s .now) (a .at) (a .out .now) Unfinished (omega arith) e)
 
 enum-known-n : tie.Need-enum-known-n
 enum-known-n c = search needs
@@ -67,7 +71,8 @@ enum-known-n c = search needs
 returns-5 : tie.Need-returns-5
 returns-5 c =
     let a = c .before .before .before .before .before .before .before .args in
-    sym (leaves (a .s .now) (a .at) (a .out .now) (Refused (c .before .n .given .0 .0)) (omega arith) (sym (c .before .before .before .find-record .ensures) ∙ c .before .n .given .1))
+    let e = sym (c .before .before .before .find-record .ensures) ∙ c .before .n .given .1 in
+    sym (leaves (a .s .now) (a .at) (a .out .now) (Refused (c .before .n .given .0 .0)) (omega arith) e)
 
 pub read-record-spec : {M : Type 1} → statement M
 read-record-spec =
