@@ -6,8 +6,8 @@ use Prim.Native.Nat.{ℕ, suc, _+_, _≤_, _<_}
 use native.Mathlib.Nat.{add-zero, zero-add, add-assoc}
 use native.Mathlib.Numerals.{add-one}
 use native.Mathlib.Omega.{arith}
-use lib.ListN.{length, take, drop, set, length-append, length-drop, take-append-drop}
-use lib.Seq.{length-take-le, take-append-le, drop-append-le, take-add, drop-drop, take-at, drop-at, take-append-seam, set-split, take-set-le}
+use lib.ListN.{length, getD, take, drop, set, length-append, length-drop, take-append-drop}
+use lib.Seq.{length-take-le, take-append-le, drop-append-le, take-add, drop-drop, take-at, drop-at, take-append-seam, set-split, take-set-le, drop-cons}
 use borrow.Rule.Slice.PartMut.{midOf, putMid}
 use Rattle.octets.specs.Lent.{overwrite}
 
@@ -55,6 +55,14 @@ overwrite-cons l at b y h =
     let k : at < length l = omega arith in
     let g : at + (1 + length y) ≤ length l = omega arith in
     rw (← overwrite-one l at b k) (overwrite-append l at (b ∷ []) y g)
+
+-- one byte of a list that is written from the front, and then those behind it
+pub overwrite-next : (l : List ℕ) (at : ℕ) (x : List ℕ) (i d : ℕ) → i < length x → at + length x ≤ length l
+    → overwrite (set l (at + i) (getD x i d)) (at + (i + 1)) (drop (i + 1) x) ≡ overwrite l (at + i) (drop i x)
+overwrite-next l at x i d h g =
+    let next : drop i x ≡ getD x i d ∷ drop (i + 1) x = rw add-one (drop-cons x i d h) in
+    let room : at + i + suc (length (drop (i + 1) x)) ≤ length l = simp length-drop (omega arith) in
+    rw (← add-assoc, overwrite-cons l (at + i) (getD x i d) (drop (i + 1) x) room, ← next)
 
 -- the last byte first, and then those before it
 pub overwrite-snoc : (l : List ℕ) (at : ℕ) (x : List ℕ) (b : ℕ) → at + length x < length l → overwrite (set l (at + length x) b) at x ≡ overwrite l at (x ++ b ∷ [])

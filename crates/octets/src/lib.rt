@@ -8,7 +8,7 @@ ghost use Rattle.octets.specs.Lent.{outcome, overwrite};
 ghost use Rattle.octets.specs.Promise.{putAt};
 
 // Whether `count` bytes at `at` reach past `length`. The sum of the two might wrap, so it is not made.
-fn no_room(count: usize, at: usize, length: usize) -> bool
+pub fn no_room(count: usize, at: usize, length: usize) -> bool
     ensures { λ r. ⌜ r ≡ ltb length (at + count) ⌝ }
 {
     if length < at {

@@ -2,17 +2,15 @@
 -- Assumes nothing.
 use mathlib.Core.Path.{_≡_, refl, sym, ap, _∙_}
 use mathlib.Core.Bool.{true}
-use mathlib.Core.List.{[], _∷_}
-use Prim.Native.Nat.{suc, _+_, _-_, _≤_, _<_}
-use native.Mathlib.Nat.{add-zero, add-assoc}
-use native.Mathlib.Numerals.{add-one}
+use mathlib.Core.List.{[]}
+use Prim.Native.Nat.{_+_, _-_, _≤_}
+use native.Mathlib.Nat.{add-zero}
 use native.Mathlib.Omega.{arith}
 use borrow.Author.Needs.{needs}
 use borrow.Author.Tests.{ltb-true, ltb-false}
-use lib.ListN.{length, getD, drop, length-set, length-drop, drop-of-length-le}
-use lib.Seq.{drop-cons}
+use lib.ListN.{length, drop, length-set, drop-of-length-le}
 use Rattle.octets.specs.Lent.{outcome, overwrite}
-use Rattle.octets.proofs.Overwrite.{overwrite-cons, overwrite-nil}
+use Rattle.octets.proofs.Overwrite.{overwrite-next, overwrite-nil}
 use Rattle.octets.proofs.Promise.{put-fits, put-refused}
 use Rattle.octets.proofs.put.Statement.{statement}
 use Rattle.octets.proofs.put.Tie as tie
@@ -60,14 +58,7 @@ loop-again c =
     let l = c .before .before .loop in
     let s = c .before .before .before .before .before .before .before .args in
     let x = s .bytes .now in
-    let below : l .i < length x = omega arith in
-    let next : drop (l .i) x ≡ getD x (l .i) 0 ∷ drop (l .i + 1) x = rw add-one (drop-cons x (l .i) 0 below) in
-    let room : s .at + l .i + suc (length (drop (l .i + 1) x)) ≤ length (l .buffer) = simp length-drop (omega arith) in (
-      omega arith,
-      omega arith,
-      rw length-set (l .inv .2),
-      rw (← add-assoc, overwrite-cons (l .buffer) (s .at + l .i) (getD x (l .i) 0) (drop (l .i + 1) x) room, ← next) (l .inv .3),
-    )
+    (omega arith, omega arith, rw length-set (l .inv .2), overwrite-next (l .buffer) (s .at) x (l .i) 0 (omega arith) (omega arith) ∙ l .inv .3)
 
 same-length : tie.Need-same-length Inv-loop μ-loop
 same-length c = search needs

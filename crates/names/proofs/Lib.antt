@@ -1,0 +1,3 @@
+pub mod Agreement
+pub mod Apart
+pub mod Text

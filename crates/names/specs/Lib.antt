@@ -1,0 +1,5 @@
+pub mod Range
+pub mod Padding
+pub mod Name
+pub mod Ebcdic
+pub mod Theorems

@@ -1,0 +1,172 @@
+// Profile, device and system names, by value, and their EBCDIC.
+ghost use mathlib.Core.Path.{_≡_};
+ghost use Prim.Native.Nat.{_+_, _-_, _≤_};
+ghost use lib.ListN.{length, getD};
+ghost use Rattle.octets.specs.Lent.{outcome};
+ghost use Rattle.octets.specs.Promise.{putAt};
+ghost use Rattle.names.specs.Range.{every};
+ghost use Rattle.names.specs.Padding.{filled};
+ghost use Rattle.names.specs.Name.{raisedByte, raised, isNameByte, isName, named, profileLimit, deviceLimit, systemLimit};
+ghost use Rattle.names.specs.Ebcdic.{ebcdic, blank, ebcdicOf};
+
+// The raised bytes of a name with zeros behind them, and how many they are: 0, where a text is no name.
+pub struct Name {
+    pub bytes: [u8; 10],
+    pub length: usize,
+}
+
+// EBCDIC's substitute for what it does not have, and its blank.
+const SUBSTITUTE: u8 = 0x3F;
+
+const BLANK: u8 = 0x40;
+
+// A lower case letter raised, any other byte as it is.
+fn raise(b: u8) -> u8
+    ensures { λ r. ⌜ r ≡ raisedByte b ⌝ }
+{
+    match b {
+        b'a'..=b'z' => b - 0x20,
+        _ => b,
+    }
+}
+
+// The EBCDIC of a byte of a name; any other byte gives the substitute.
+pub fn ebcdic(b: u8) -> u8
+    ensures { λ r. ⌜ r ≡ ebcdic b ⌝ }
+{
+    match b {
+        b'A'..=b'I' => 0xC1 + (b - b'A'),
+        b'J'..=b'R' => 0xD1 + (b - b'J'),
+        b'S'..=b'Z' => 0xE2 + (b - b'S'),
+        b'0'..=b'9' => 0xF0 + (b - b'0'),
+        b'$' => 0x5B,
+        b'#' => 0x7B,
+        b'@' => 0x7C,
+        b'_' => 0x6D,
+        _ => SUBSTITUTE,
+    }
+}
+
+// Whether a byte, raised already, may stand in a name: those bytes have an EBCDIC of their own.
+fn is_name_byte(b: u8) -> bool
+    ensures { λ r. ⌜ r ≡ isNameByte b ⌝ }
+{
+    ebcdic(b) != SUBSTITUTE
+}
+
+// Whether each byte of a text, raised, may stand in a name.
+fn are_name_bytes(text: &[u8]) -> bool
+    ensures { λ r. ⌜ r ≡ every isNameByte (raised (now (text .entry))) ⌝ }
+{
+    let mut i = 0;
+    while i < text.len() {
+        if !is_name_byte(raise(text[i])) {
+            return false;
+        }
+        i += 1;
+    }
+    true
+}
+
+// Whether a text is a name of at most `limit` bytes.
+pub fn is_name(text: &[u8], limit: usize) -> bool
+    ensures { λ r. ⌜ r ≡ isName limit (now (text .entry)) ⌝ }
+{
+    if text.len() == 0 {
+        return false;
+    }
+    if limit < text.len() {
+        return false;
+    }
+    are_name_bytes(text)
+}
+
+// A text raised, with zeros behind it.
+fn raised_bytes(text: &[u8]) -> [u8; 10]
+    requires { ⌜ length (now text) ≤ 10 ⌝ }
+    ensures { λ r. ⌜ r ≡ filled 0 10 (raised (now (text .entry))) ⌝ }
+{
+    let mut bytes = [0u8; 10];
+    let mut i = 0;
+    while i < text.len() {
+        bytes[i] = raise(text[i]);
+        i += 1;
+    }
+    bytes
+}
+
+// The name of at most `limit` bytes that a text gives.
+fn name_of(text: &[u8], limit: usize) -> Name
+    requires { ⌜ limit ≤ 10 ⌝ }
+    ensures { λ r. ⌜ r ≡ named limit (now (text .entry)) ⌝ }
+{
+    if is_name(text, limit) {
+        let bytes = raised_bytes(text);
+        return Name {
+            bytes,
+            length: text.len(),
+        };
+    }
+    Name {
+        bytes: [0u8; 10],
+        length: 0,
+    }
+}
+
+// The profile name that a text gives.
+pub fn profile_name(text: &[u8]) -> Name
+    ensures { λ r. ⌜ r ≡ named profileLimit (now (text .entry)) ⌝ }
+{
+    name_of(text, 10)
+}
+
+// The device name that a text gives, by the rule of profile names.
+pub fn device_name(text: &[u8]) -> Name
+    ensures { λ r. ⌜ r ≡ named deviceLimit (now (text .entry)) ⌝ }
+{
+    profile_name(text)
+}
+
+// The system name that a text gives.
+pub fn system_name(text: &[u8]) -> Name
+    ensures { λ r. ⌜ r ≡ named systemLimit (now (text .entry)) ⌝ }
+{
+    name_of(text, 8)
+}
+
+// The byte at a place of the EBCDIC of a text, and behind its end the blank.
+fn ebcdic_at(text: &[u8], at: usize) -> u8
+    ensures { λ r. ⌜ r ≡ getD (ebcdicOf (now (text .entry))) at blank ⌝ }
+{
+    if at < text.len() {
+        return ebcdic(raise(text[at]));
+    }
+    BLANK
+}
+
+// How long a text of `length` bytes is when it is padded to a width.
+fn filled_length(length: usize, width: usize) -> usize
+    ensures { λ r. ⌜ r ≡ length + (width - length) ⌝ }
+{
+    if length < width {
+        return width;
+    }
+    length
+}
+
+// Puts the EBCDIC of a text, padded with blanks to a width, at a place of the buffer; where it does not fit, writes nothing and answers
+// false.
+pub fn put_ebcdic(text: &[u8], width: usize, out: &mut [u8], at: usize) -> bool
+    ensures { λ r. ⌜ outcome r (now (out .exit)) ≡ putAt (filled blank width (ebcdicOf (now (text .entry)))) (now (out .entry)) at ⌝ }
+{
+    let count = filled_length(text.len(), width);
+    if octets::no_room(count, at, out.len()) {
+        return false;
+    }
+    let mut i = 0;
+    while i < count {
+        out[at + i] = ebcdic_at(text, i);
+        i += 1;
+    }
+    true
+}

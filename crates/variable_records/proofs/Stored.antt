@@ -1,0 +1,24 @@
+-- Five stores, one behind the other, are one write. Assumes nothing.
+use mathlib.Core.Path.{_≡_, sym, _∙_}
+use mathlib.Core.List.{List, [], _∷_}
+use Prim.Native.Nat.{ℕ, suc, _+_, _≤_}
+use native.Mathlib.Nat.{add-assoc}
+use native.Mathlib.Omega.{arith}
+use lib.ListN.{length, set, length-set}
+use Rattle.octets.specs.Lent.{overwrite}
+use Rattle.octets.proofs.Overwrite.{overwrite-cons, overwrite-one}
+
+-- the number at j behind k is stored, and the rest is written from there on
+next : (l : List ℕ) (k j b : ℕ) (y : List ℕ) → k + j + suc (length y) ≤ length l
+    → overwrite l (k + j) (b ∷ y) ≡ overwrite (set l (k + j) b) (k + (j + 1)) y
+next l k j b y h = rw (← add-assoc) (sym (overwrite-cons l (k + j) b y h))
+
+pub five-stored : (l : List ℕ) (i a b c d e : ℕ) → i + 5 ≤ length l
+    → set (set (set (set (set l i a) (i + 1) b) (i + 2) c) (i + 3) d) (i + 4) e ≡ overwrite l i (a ∷ b ∷ c ∷ d ∷ e ∷ [])
+five-stored l i a b c d e h =
+    sym (
+    sym (overwrite-cons l i a (b ∷ c ∷ d ∷ e ∷ []) (omega arith))
+    ∙ next (set l i a) i 1 b (c ∷ d ∷ e ∷ []) (simp length-set (omega arith))
+    ∙ next (set (set l i a) (i + 1) b) i 2 c (d ∷ e ∷ []) (simp length-set (omega arith))
+    ∙ next (set (set (set l i a) (i + 1) b) (i + 2) c) i 3 d (e ∷ []) (simp length-set (omega arith))
+    ∙ overwrite-one (set (set (set (set l i a) (i + 1) b) (i + 2) c) (i + 3) d) (i + 4) e (simp length-set (omega arith)))

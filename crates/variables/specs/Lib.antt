@@ -1,0 +1,7 @@
+pub mod Variable
+pub mod Fields
+pub mod Read
+pub mod Write
+pub mod Numbers
+pub mod Theorems
+pub mod Worked
