@@ -1,22 +1,14 @@
 -- The laws of `Put`: what is put behind a text, two texts one behind the other, a text within a wider bound, and what stands at the front.
 -- Assumes nothing.
-use mathlib.Core.Path.{_≡_, ap, _∙_}
-use mathlib.Core.Bool.{Bool}
+use mathlib.Core.Path.{_≡_, _∙_}
 use mathlib.Core.List.{List, _++_}
 use Prim.Native.Nat.{ℕ, _+_, _≤_}
 use native.Mathlib.Nat.{zero-add, add-assoc}
 use native.Mathlib.Omega.{arith}
 use lib.ListN.{length, take, length-append}
-use Rattle.octets.specs.Lent.{Outcome, outcome, overwrite}
-use Rattle.octets.specs.Promise.{putAt}
+use Rattle.octets.specs.Lent.{overwrite}
 use Rattle.octets.proofs.Overwrite.{overwrite-append, take-overwrite-front}
-use Rattle.octets.proofs.Promise.{put-fits}
 use Rattle.lines.specs.Put.{Put}
-
--- what `octets::put` leaves where there is room
-pub put-whole : (x b : List ℕ) (at : ℕ) {t : Bool} {l : List ℕ} → at + length x ≤ length b
-    → outcome t l ≡ putAt x b at → l ≡ overwrite b at x
-put-whole x b at h e = ap (λ (o : Outcome Bool). o .lent) (e ∙ put-fits x b at h)
 
 module _ {x : List ℕ} {m : ℕ} {b : List ℕ} {at r : ℕ} {l : List ℕ} (p : Put x m b at r l) where
   pub put-behind : (y : List ℕ) → at + (length x + length y) ≤ length b → overwrite l r y ≡ overwrite b at (x ++ y)

@@ -3,3 +3,4 @@ pub mod Decimal
 pub mod Order
 pub mod Overwrite
 pub mod Promise
+pub mod Same

@@ -1,12 +1,12 @@
 -- `putAt` in its two cases: the bytes fit, or they do not.
 -- Assumes nothing.
-use mathlib.Core.Path.{_≡_}
-use mathlib.Core.Bool.{true, false}
+use mathlib.Core.Path.{_≡_, ap, _∙_}
+use mathlib.Core.Bool.{Bool, true, false}
 use mathlib.Core.List.{List}
 use Prim.Native.Nat.{ℕ, _+_, _≤_, _<_}
 use lib.ListN.{length}
 use borrow.Author.Tests.{le-leb, lt-leb}
-use Rattle.octets.specs.Lent.{outcome, overwrite}
+use Rattle.octets.specs.Lent.{Outcome, outcome, overwrite}
 use Rattle.octets.specs.Promise.{putAt}
 
 pub put-fits : (x l : List ℕ) (at : ℕ) → at + length x ≤ length l → putAt x l at ≡ outcome true (overwrite l at x)
@@ -16,3 +16,7 @@ put-fits x l at h = rw (le-leb (at + length x) (length l) h)
 pub put-refused : (x l : List ℕ) (at : ℕ) → length l < at + length x → putAt x l at ≡ outcome false l
 unfolding putAt
 put-refused x l at h = rw (lt-leb (at + length x) (length l) h)
+
+-- what is left where there is room
+pub put-whole : (x b : List ℕ) (at : ℕ) {t : Bool} {l : List ℕ} → at + length x ≤ length b → outcome t l ≡ putAt x b at → l ≡ overwrite b at x
+put-whole x b at h e = ap (λ (o : Outcome Bool). o .lent) (e ∙ put-fits x b at h)

@@ -2,3 +2,4 @@ pub mod Choice
 pub mod Decimal
 pub mod Lent
 pub mod Promise
+pub mod Same

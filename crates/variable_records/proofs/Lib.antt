@@ -2,6 +2,6 @@ pub mod Fives
 pub mod Found
 pub mod Held
 pub mod Parts
-pub mod Same
+pub mod Bytewise
 pub mod Steps
 pub mod Stored

@@ -4,7 +4,8 @@ ghost use Prim.Native.Nat.{_+_, _-_, _*_, _/_, _<_, min};
 ghost use lib.Dec.{leb};
 ghost use lib.ListN.{length, drop};
 ghost use Rattle.variable_records.specs.Records.{recordAt, numbersOf, variableOf, placeOf};
-ghost use Rattle.variables.specs.Variable.{same, is, among, repeated};
+ghost use Rattle.variables.specs.Variable.{isFirst, isKind, is, among, repeated};
+ghost use Rattle.octets.specs.Same.{same};
 ghost use Rattle.variables.specs.Numbers.{held};
 ghost use Rattle.octets.specs.Lent.{outcome};
 ghost use Rattle.octets.specs.Promise.{putAt};
@@ -22,6 +23,26 @@ pub struct VariableRecord {
 pub enum ValuePlace {
     Absent,
     At(usize, usize),
+}
+
+// Whether a byte begins a payload: IS or INFO.
+pub fn is_first(b: u8) -> bool
+    ensures { λ r. ⌜ r ≡ isFirst b ⌝ }
+{
+    if b == 0 {
+        return true;
+    }
+    b == 2
+}
+
+// Whether a number is the kind of a variable: VAR or USERVAR.
+pub fn is_kind(kind: usize) -> bool
+    ensures { λ r. ⌜ r ≡ isKind kind ⌝ }
+{
+    if kind == 0 {
+        return true;
+    }
+    kind == 3
 }
 
 // Record i of a list; all zeros where the list has no such record.

@@ -1,7 +1,7 @@
 pub mod Rows
 pub mod Limits
 pub mod Holding
-pub mod Same
+pub mod Repeats
 pub mod Sound
 pub mod ReadingBack
 pub mod Worked

@@ -1,12 +1,12 @@
 -- What is proved of the format: reading undoes writing, records hold what was recorded, and the tests of kinds and names say what is meant by
--- them. The proofs are in `proofs/ReadingBack.antt`, `proofs/Holding.antt` and `proofs/Same.antt`.
+-- them. The proofs are in `proofs/ReadingBack.antt`, `proofs/Holding.antt` and `proofs/Repeats.antt`.
 use mathlib.Core.Path.{_≡_}
 use mathlib.Core.List.{List, _∷_, _++_}
 use mathlib.Core.Logic.{_↔_}
 use Prim.Native.Nat.{ℕ, _+_, _≤_}
 use lib.Dec.{T}
 use lib.ListN.{length}
-use Rattle.variables.specs.Variable.{Variable, same, is, among, repeated}
+use Rattle.variables.specs.Variable.{Variable, is, among, repeated}
 use Rattle.variables.specs.Read.{readingOf, says}
 use Rattle.variables.specs.Write.{payloadOf, kindsGood, Accepted}
 use Rattle.variables.specs.Numbers.{packed, recorded, held, placed}
@@ -30,10 +30,6 @@ HoldsAgain =
     (bytes : List ℕ) (at : ℕ) (vs : List Variable) → at + length (packed vs) ≤ length bytes
     → (held (overwrite bytes at (packed vs)) (recorded at vs) ≡ vs)
     × (T (kindsGood vs) → T (placed (overwrite bytes at (packed vs)) (recorded at vs)))
-
--- The test by which names are compared is equality.
-abbrev pub SameIsEqual : Type 0
-SameIsEqual = (a b : List ℕ) → T (same a b) ↔ (a ≡ b)
 
 -- A variable is of a kind and has a name where both are its own.
 abbrev pub IsBoth : Type 0

@@ -1,9 +1,10 @@
 -- Environment variables and the codes of RFC 1572, section 2, as the specification reads them ("Environment strings").
 use Prim.Native.Nat.{ℕ}
-use mathlib.Core.Bool.{Bool, true, false, _||_, _&&_}
+use mathlib.Core.Bool.{Bool, false, _||_, _&&_}
 use mathlib.Core.List.{List, [], _∷_}
 use lib.Dec.{eqb}
 use Rattle.octets.specs.Choice.{if_then_else_}
+use Rattle.octets.specs.Same.{same}
 
 -- the first byte of a payload: IS answers a SEND, INFO tells of a change
 abbrev pub IS : ℕ
@@ -43,13 +44,6 @@ isKind k = eqb k VAR || eqb k USERVAR
 -- a payload has at most so many
 abbrev pub variableLimit : ℕ
 variableLimit = 64
-
--- two texts are the same, byte by byte
-unfoldable pub same : List ℕ → List ℕ → Bool
-same [] [] = true
-same [] (c ∷ cs) = false
-same (b ∷ bs) [] = false
-same (b ∷ bs) (c ∷ cs) = eqb b c && same bs cs
 
 -- a variable is of a kind and has a name
 unfoldable pub is : ℕ → List ℕ → Variable → Bool

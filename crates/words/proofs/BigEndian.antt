@@ -1,11 +1,14 @@
--- The laws of bytes: how many they are, that they say nothing of what is above them, and that they stand for the number they are of.
+-- The laws of bytes: how many they are, that they say nothing of what is above them, that they stand for the number they are of, and the
+-- number of one byte more.
 -- Assumes nothing.
 use mathlib.Core.Path.{_≡_, refl, sym, ap, _∙_}
-use Prim.Native.Nat.{ℕ, zero, suc, _+_, _*_, _/_, _%_, _^_}
-use native.Mathlib.Nat.{mod-one}
+use mathlib.Core.List.{List, [], _∷_, _++_}
+use Prim.Native.Nat.{ℕ, zero, suc, _+_, _*_, _/_, _%_, _^_, _≤_, _<_}
+use native.Mathlib.Nat.{mod-one, mul-assoc}
 use native.Mathlib.Omega.{arith}
-use lib.ListN.{length}
-use lib.Pow.{mod-pow-add, field, mod-mod-pow}
+use lib.Bits.{bitOr, or-shifted}
+use lib.ListN.{length, length-append}
+use lib.Pow.{pow-add, pow-mono, mod-pow-add, field, mod-mod-pow}
 use Rattle.words.specs.BigEndian.{number, bytes}
 
 pub length-bytes : (k x : ℕ) → length (bytes k x) ≡ k
@@ -38,3 +41,26 @@ number-bytes zero x = sym (mod-one x)
 number-bytes (suc k) x =
     let e : 8 * suc k ≡ 8 + 8 * k = omega arith in
     rw (length-bytes k x, number-bytes k x, e) (sym (mod-pow-add x 8 (8 * k)))
+
+-- 2 ^ (8 * suc k), as the next byte's weight
+weight : (k : ℕ) → 2 ^ (8 * suc k) ≡ 2 ^ (8 * k) * 256
+weight k =
+    let e : 8 * suc k ≡ 8 * k + 8 = omega arith in
+    rw (e, pow-add 2 (8 * k) 8)
+
+-- a byte more behind the others
+pub number-snoc : (l : List ℕ) (b : ℕ) → number (l ++ b ∷ []) ≡ number l * 256 + b
+number-snoc [] b = omega arith
+number-snoc (x ∷ xs) b =
+    let e : length (xs ++ b ∷ []) ≡ suc (length xs) = rw length-append (omega arith) in
+    rw (e, weight (length xs), number-snoc xs b) (omega (arith, mul-assoc x (2 ^ (8 * length xs)) 256))
+
+-- a number of i bytes shifted by one byte within a word of eight, and a byte put behind it
+pub joined-byte : (n b i : ℕ) → n < 2 ^ (8 * i) → i < 8 → b < 256 → bitOr (n * 256 % 2 ^ 64) b ≡ n * 256 + b
+joined-byte n b i h k g =
+    let small : 2 ^ (8 * i) ≤ 2 ^ 56 = pow-mono {i = 8 * i} {j = 56} (omega arith) in
+    let e : n * 256 % 2 ^ 64 ≡ n * 256 = omega arith in
+    rw e (or-shifted n 8 b g)
+
+pub joined-lt : (n b i : ℕ) → n < 2 ^ (8 * i) → b < 256 → n * 256 + b < 2 ^ (8 * suc i)
+joined-lt n b i h g = rw (weight i) (omega arith)

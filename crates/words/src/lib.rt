@@ -2,6 +2,7 @@
 ghost use mathlib.Core.Path.{_≡_};
 ghost use mathlib.Core.List.{[], _∷_};
 ghost use Prim.Native.Nat.{_%_};
+ghost use lib.ListN.{take};
 ghost use Rattle.words.specs.BigEndian.{number, bytes};
 ghost use Rattle.words.specs.Word.{rotl};
 
@@ -46,4 +47,26 @@ pub fn bytes_64(n: u64) -> [u8; 8]
         ((n >> 8) % 256) as u8,
         (n % 256) as u8,
     ]
+}
+
+fn wide(b: u8) -> u64
+    ensures { λ r. ⌜ r ≡ b ⌝ }
+{
+    b as u64
+}
+
+// The word of the first eight bytes, the most significant first; fewer bytes stand for a smaller number.
+pub fn word_64(bytes: &[u8]) -> u64
+    ensures { λ r. ⌜ r ≡ number (take 8 (now (bytes .entry))) ⌝ }
+{
+    let mut n: u64 = 0;
+    let mut i = 0;
+    while i < 8 {
+        if i == bytes.len() {
+            return n;
+        }
+        n = (n << 8) | wide(bytes[i]);
+        i += 1;
+    }
+    n
 }

@@ -4,7 +4,8 @@ use Prim.Native.Nat.{_+_}
 use native.Mathlib.Nat.{zero-add}
 use native.Mathlib.Omega.{arith}
 use lib.ListN.{length}
-use Rattle.lines.proofs.Put.{front, put-whole}
+use Rattle.octets.proofs.Promise.{put-whole}
+use Rattle.lines.proofs.Put.{front}
 use Rattle.lines.specs.Listing.{answerText, line}
 use borrow.Author.Needs.{needs}
 use Rattle.lines.proofs.line_at.Statement.{statement}

@@ -3,7 +3,8 @@ use mathlib.Core.Path.{ap, _∙_}
 use native.Mathlib.Omega.{arith}
 use borrow.Author.Needs.{needs}
 use borrow.Author.Tests.{eq-eqb, ne-eqb}
-use Rattle.variables.specs.Variable.{same, is}
+use Rattle.variables.specs.Variable.{is}
+use Rattle.octets.specs.Same.{same}
 use Rattle.variable_records.proofs.Parts.{part-lent}
 use Rattle.variable_records.proofs.is_of.Statement.{statement}
 use Rattle.variable_records.proofs.is_of.Tie as tie

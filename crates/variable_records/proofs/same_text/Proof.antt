@@ -5,8 +5,9 @@ use Prim.Native.Nat.{_-_, _≤_}
 use native.Mathlib.Omega.{arith}
 use borrow.Author.Needs.{needs}
 use lib.ListN.{length, drop, drop-of-length-le}
-use Rattle.variables.specs.Variable.{same}
-use Rattle.variable_records.proofs.Same.{same-differ, same-none, same-stops, same-goes}
+use Rattle.octets.specs.Same.{same}
+use Rattle.octets.proofs.Same.{same-differ, same-none}
+use Rattle.variable_records.proofs.Bytewise.{same-stops, same-goes}
 use Rattle.variable_records.proofs.same_text.Statement.{statement}
 use Rattle.variable_records.proofs.same_text.Tie as tie
 

@@ -4,7 +4,7 @@ use Prim.Native.Nat.{_+_}
 use native.Mathlib.Omega.{arith}
 use Rattle.octets.specs.Decimal.{decimal}
 use Rattle.octets.proofs.Decimal.{length-decimal-word}
-use Rattle.lines.proofs.Put.{put-whole}
+use Rattle.octets.proofs.Promise.{put-whole}
 use borrow.Author.Needs.{needs}
 use Rattle.lines.proofs.words.number.Statement.{statement}
 use Rattle.lines.proofs.words.number.Tie as tie

@@ -1,7 +1,7 @@
 -- `lines::words::word` meets its contract. Assumes nothing.
 use mathlib.Core.Path.{refl}
 use native.Mathlib.Omega.{arith}
-use Rattle.lines.proofs.Put.{put-whole}
+use Rattle.octets.proofs.Promise.{put-whole}
 use borrow.Author.Needs.{needs}
 use Rattle.lines.proofs.words.word.Statement.{statement}
 use Rattle.lines.proofs.words.word.Tie as tie

@@ -1,5 +1,5 @@
--- The tests of names, kinds and repeats are what they are named after: the theorems `Theorems.SameIsEqual`, `IsBoth`, `AmongIsOccurs` and
--- `RepeatedIsTwice`. Assumes nothing.
+-- The tests of kinds, names and repeats are what they are named after: the theorems `Theorems.IsBoth`, `AmongIsOccurs` and `RepeatedIsTwice`.
+-- Assumes nothing.
 use mathlib.Core.Path.{_≡_, refl}
 use mathlib.Core.Bool.{Bool, true, false, _||_}
 use mathlib.Core.List.{List, [], _∷_, _++_}
@@ -7,30 +7,15 @@ use mathlib.Core.Logic.{_⊎_, inl, inr, ⊎-elim}
 use Prim.Native.Nat.{ℕ}
 use lib.Dec.{T, eqb, eqb→eq, eqb-refl}
 use mir.Facts.{and-yes, yes-and, or-yes}
-use Rattle.variables.specs.Variable.{Variable, same, is, among, repeated}
-use Rattle.variables.specs.Theorems.{SameIsEqual, IsBoth, Occurs, AmongIsOccurs, Twice, RepeatedIsTwice}
+use Rattle.octets.specs.Same.{same}
+use Rattle.octets.proofs.Same.{same-sound, same-refl}
+use Rattle.variables.specs.Variable.{Variable, is, among, repeated}
+use Rattle.variables.specs.Theorems.{IsBoth, Occurs, AmongIsOccurs, Twice, RepeatedIsTwice}
 
 yes-or : (s t : Bool) → T s ⊎ T t → T (s || t)
 yes-or true t h = tt
 yes-or false t (inl h) = absurd h
 yes-or false t (inr h) = h
-
-pub same-sound : (a b : List ℕ) → T (same a b) → a ≡ b
-unfolding same
-same-sound [] [] t = refl
-same-sound [] (c ∷ cs) t = absurd t
-same-sound (b ∷ bs) [] t = absurd t
-same-sound (b ∷ bs) (c ∷ cs) t =
-    let both = and-yes (eqb b c) (same bs cs) t in
-    rw (eqb→eq b c (both .0), same-sound bs cs (both .1))
-
-pub same-refl : (a : List ℕ) → T (same a a)
-unfolding same
-same-refl [] = tt
-same-refl (b ∷ bs) = yes-and (eqb b b) (same bs bs) (eqb-refl b) (same-refl bs)
-
-pub same-is-equal : SameIsEqual
-same-is-equal a b = (same-sound a b, λ e. rw e (same-refl b))
 
 pub is-both : IsBoth
 unfolding is

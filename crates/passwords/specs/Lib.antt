@@ -1,0 +1,4 @@
+pub mod Des
+pub mod Sha
+pub mod Answer
+pub mod Worked
