@@ -85,14 +85,11 @@ pub fn set_record(numbers: &mut [usize], i: usize, v: VariableRecord) -> bool
     true
 }
 
-// Whether `n` bytes from `at` on end within `length`. The sum of the two might wrap, so it is not made.
+// Whether `n` bytes from `at` on end within `length`.
 pub fn fits(length: usize, at: usize, n: usize) -> bool
     ensures { λ r. ⌜ r ≡ leb (at + n) length ⌝ }
 {
-    if length < at {
-        return false;
-    }
-    n <= length - at
+    !octets::no_room(n, at, length)
 }
 
 // A number, but no more than a limit.

@@ -5,3 +5,4 @@ pub mod Repeats
 pub mod Sound
 pub mod ReadingBack
 pub mod Worked
+pub mod Boundary

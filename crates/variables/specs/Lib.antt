@@ -5,3 +5,4 @@ pub mod Write
 pub mod Numbers
 pub mod Theorems
 pub mod Worked
+pub mod Boundaries

@@ -16,7 +16,7 @@ pub record Case : Type 0 where
   pub payload : List ℕ
   pub reading : Reading
 
-abbrev case : List ℕ → Reading → Case
+abbrev pub case : List ℕ → Reading → Case
 case p r = record { payload = p; reading = r }
 
 -- payload 00 alone gives no variables; an empty payload gives 20; a payload of 1,024 is read; 1,025 gives 3

@@ -1,22 +1,25 @@
 -- `variable_records::fits` meets its contract. Assumes nothing.
-use mathlib.Core.Path.{sym, _∙_}
+use mathlib.Core.Path.{_≡_, sym, ap, _∙_}
+use mathlib.Core.Bool.{not}
 use mathlib.Core.Logic.{⊎-elim}
-use Prim.Native.Nat.{_+_, _-_}
-use native.Mathlib.Omega.{arith}
-use borrow.Author.Tests.{le-leb, lt-leb}
+use Prim.Native.Nat.{ℕ, _+_}
+use borrow.Author.Needs.{needs}
+use borrow.Author.Tests.{lt-ltb, le-ltb, lt-leb, le-leb}
+use lib.Dec.{leb, ltb}
 use Rattle.octets.proofs.Order.{below-or-above}
 use Rattle.variable_records.proofs.fits.Statement.{statement}
 use Rattle.variable_records.proofs.fits.Tie as tie
 
-returns : tie.Need-returns
-returns c = let s = c .before .args in sym (lt-leb (s .at + s .n) (s .length) (omega arith))
+not-below : (a b : ℕ) → not (ltb a b) ≡ leb b a
+not-below a b = ⊎-elim (λ h. ap not (lt-ltb a b h) ∙ sym (lt-leb b a h)) (λ h. ap not (le-ltb a b h) ∙ sym (le-leb b a h)) (below-or-above a b)
 
-returns-2 : tie.Need-returns-2
-returns-2 c =
+no-room-requires : tie.Need-no-room-requires
+no-room-requires c κs = search needs
+
+returns : tie.Need-returns
+returns c =
     let s = c .before .args in
-    ⊎-elim (λ h. lt-leb (s .n) (s .length - s .at) h ∙ sym (lt-leb (s .at + s .n) (s .length) (omega arith)))
-    (λ h. le-leb (s .n) (s .length - s .at) h ∙ sym (le-leb (s .at + s .n) (s .length) (omega arith)))
-    (below-or-above (s .length - s .at) (s .n))
+    ap not (c .no-room .ensures) ∙ not-below (s .length) (s .at + s .n)
 
 pub fits-spec : {M : Type 1} → statement M
-fits-spec = tie.close (tie.spec returns returns-2)
+fits-spec = tie.close (tie.spec no-room-requires returns)
