@@ -4,29 +4,26 @@ use mathlib.Core.Path.{_≡_, refl, sym, ap, _∙_}
 use mathlib.Core.Bool.{Bool, true, false}
 use mathlib.Core.List.{List, [], _∷_}
 use Prim.Native.Nat.{ℕ, _+_, _-_, _*_, _/_, _≤_, _<_}
-use native.Mathlib.Nat.{zero-add}
 use native.Mathlib.Omega.{arith}
 use borrow.Author.Tests.{lt-ltb, le-ltb}
-use lib.Dec.{ltb}
 use lib.ListN.{length, getD, take, drop}
 use lib.Seq.{take-all}
 use Rattle.environ.specs.declared.Found.{Found as Answered}
 use Rattle.environ.specs.declared.Found.the-variants.{These, Faulty}
 use Rattle.environ.specs.declared.Answer.the-variants.{Read, Refused}
-use Rattle.environ.specs.Promise.{Delivery, delivery, delivered, readInto}
-use Rattle.environ.specs.Turns.{fromName, Stored, NameRead, handed}
+use Rattle.environ.specs.Promise.{delivery, delivered, readInto}
+use Rattle.environ.specs.Turns.{fromName, NameRead, handed}
 use Rattle.variables.specs.Variable.{Variable, variableLimit, isFirst, repeated}
 use Rattle.variables.specs.Fields.{rowOf}
-use Rattle.variables.specs.Read.{Found, these, faulty, Reading, says, refused, distinct, begun, readingOf, variablesOf}
+use Rattle.variables.specs.Read.{Found, these, faulty, says, refused, distinct, begun, variablesOf}
 use Rattle.variables.specs.Numbers.{packed, recorded, part, held}
 use Rattle.variables.proofs.Limits.{reading-short, reading-long}
 use Rattle.variables.proofs.Holding.{held-recorded, length-recorded}
 use Rattle.refusal.specs.Refusal.{noRoom, notIsOrInfo, payloadTooLong, noVariable, repeatedVariable}
 use Rattle.octets.specs.Choice.{if_then_else_}
 use Rattle.octets.specs.Lent.{overwrite}
-use Rattle.octets.proofs.Choice.{choice}
 use Rattle.octets.proofs.Overwrite.{take-overwrite-front}
-use Rattle.environ.proofs.Turning.{to-the-end}
+use Rattle.octets.proofs.Front.{to-the-end}
 
 -- what is handed over, in the order of the tests
 module _ (first : ℕ) (texts records bytes numbers : List ℕ) where

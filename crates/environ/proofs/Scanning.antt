@@ -1,19 +1,14 @@
 -- Laws of a name or a value at the front of bytes: by the bytes that stand there, and what the row of the bytes says of it. Assumes nothing.
 use mathlib.Core.Path.{_≡_, refl, sym, ap, _∙_}
-use mathlib.Core.Bool.{Bool, true, false}
-use mathlib.Core.List.{List, [], _∷_, _++_}
+use mathlib.Core.Bool.{true, false}
+use mathlib.Core.List.{List, [], _∷_}
 use Prim.Native.Nat.{ℕ, zero, suc, _+_, _-_, _≤_, _<_}
 use native.Mathlib.Omega.{arith}
-use native.Mathlib.Numerals.{add-one}
-use native.Mathlib.Nat.{not-suc-le-zero}
 use borrow.Author.Tests.{le-leb, lt-leb, le-ltb}
-use lib.Dec.{eqb, leb, ltb}
+use lib.Dec.{eqb, ltb}
 use lib.ListN.{length, getD, drop, drop-of-length-le}
-use lib.Seq.{drop-cons}
 use Rattle.environ.specs.Scan.{Cut, cut, joined, textOf, marked, givesValue, IsWidth}
-use Rattle.framing.proofs.Widths.{at-front, pair-front}
-use Rattle.variables.specs.Fields.{text, broken, Row, row, rowOf, joins, stands, escapes, opened, given}
-use Rattle.octets.specs.Choice.{if_then_else_}
+use Rattle.octets.proofs.Front.{at-front, pair-front}
 
 -- the text by its first byte
 text-plain : (b : ℕ) (bs : List ℕ) → 3 < b → textOf (b ∷ bs) ≡ joined b (textOf bs)

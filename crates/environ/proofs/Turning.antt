@@ -8,23 +8,21 @@ use native.Mathlib.Nat.{add-zero}
 use native.Mathlib.Numerals.{add-one}
 use native.Mathlib.Omega.{arith}
 use borrow.Author.Tests.{eqb-true, lt-ltb, le-ltb, leb-true, leb-false}
-use lib.Dec.{T, leb, ltb}
-use lib.ListN.{length, getD, take, drop, length-append, length-drop}
-use lib.Seq.{take-all}
+use lib.Dec.{leb}
+use lib.ListN.{length, getD, drop, length-append}
 use Rattle.environ.specs.declared.Extent.{Extent}
 use Rattle.environ.specs.declared.Found.{Found as Answered}
 use Rattle.environ.specs.declared.Found.the-variants.{These, Faulty}
 use Rattle.environ.specs.declared.Taken.{Taken}
 use Rattle.environ.specs.Scan.{joined, textOf, marked, givesValue, IsExtent, IsTaken}
-use Rattle.environ.specs.Turns.{fromName, Valued, valued, amiss, followed, fromValue, completed, Stored, NameRead, ValueRead}
-use Rattle.variables.specs.Variable.{Variable, variable, variableLimit, isKind}
+use Rattle.environ.specs.Turns.{fromName, Valued, valued, amiss, followed, fromValue, completed, NameRead, ValueRead}
+use Rattle.variables.specs.Variable.{variable, variableLimit, isKind}
 use Rattle.variables.specs.Fields.{Text, text, broken, Field, opens, gives, Row, row, rowOf, joins, stands, escapes, opened, given}
 use Rattle.variables.specs.Read.{Found, these, faulty, before, limited, whole, named, names, unled}
 use Rattle.variables.specs.Numbers.{packed, recorded}
 use Rattle.refusal.specs.Refusal.{noVariable, badEscape, valueInValue, tooManyVariables}
 use Rattle.variables.proofs.Rows.{row-escape, row-bad-escape, row-kind}
 use Rattle.variables.proofs.Holding.{length-recorded}
-use Rattle.octets.specs.Choice.{if_then_else_}
 use Rattle.octets.specs.Lent.{overwrite}
 use Rattle.octets.proofs.Choice.{choice}
 use Rattle.octets.proofs.Overwrite.{overwrite-nil, overwrite-append, length-overwrite}
@@ -224,10 +222,6 @@ name-none found at k bytes numbers e h g = rw e (record {
   texts = sym (overwrite-nil bytes at);
   records = sym (overwrite-nil numbers (5 * k));
 })
-
--- a part that begins at a place and goes to the end
-pub to-the-end : (l : List ℕ) (n : ℕ) → take (length l - n) (drop n l) ≡ drop n l
-to-the-end l n = take-all (length l - n) (drop n l) (rw length-drop (omega arith))
 
 names-turn-of : (fault k kind : ℕ) (name : List ℕ) (fs : List Field) → k < variableLimit → 0 < length name
     → names fault k (opens kind (text name) ∷ fs) ≡ completed kind name (fromValue k fs)

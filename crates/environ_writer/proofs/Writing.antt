@@ -9,7 +9,7 @@ use lib.ListN.{length, drop, getD, set, length-append, length-set, drop-of-lengt
 use Rattle.variables.specs.Variable.{VALUE, ESC}
 use Rattle.variables.specs.Write.{escaped}
 use Rattle.variables.proofs.Rows.{escaped-nil, escaped-code, escaped-plain}
-use Rattle.framing.proofs.Widths.{at-front}
+use Rattle.octets.proofs.Front.{at-front}
 use Rattle.octets.specs.Lent.{overwrite}
 use Rattle.octets.proofs.Order.{below-or-above}
 use Rattle.octets.proofs.Overwrite.{length-overwrite, overwrite-append, overwrite-cons}

@@ -21,11 +21,7 @@ use Rattle.framing.specs.Read.{undoubled, negotiated, opened, closed, co
 use Rattle.framing.specs.Scan.{count, span}
 use Rattle.framing.specs.Promise.{answered, lookAt}
 use Rattle.framing.proofs.Stretch.{stretch}
-use Rattle.framing.proofs.Widths.{at-front, pair-front}
-
-pub empty : (l : List ℕ) → length l ≡ 0 → l ≡ []
-empty [] h = refl
-empty (x ∷ l) h = absurd (omega arith)
+use Rattle.octets.proofs.Front.{empty, at-front, pair-front}
 
 -- doubling takes no byte away
 pub doubled-longer : (d : List ℕ) → length d ≤ length (doubled d)

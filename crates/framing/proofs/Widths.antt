@@ -4,24 +4,16 @@ use mathlib.Core.Bool.{Bool, true, false}
 use mathlib.Core.List.{List, [], _∷_}
 use Prim.Native.Nat.{ℕ, zero, suc, _+_, _≤_, _<_}
 use native.Mathlib.Nat.{not-suc-le-zero, add-zero}
-use native.Mathlib.Numerals.{add-one}
 use native.Mathlib.Omega.{arith}
 use lib.Dec.{eqb}
 use lib.ListN.{length, drop, getD, length-drop, drop-of-length-le}
-use lib.Seq.{drop-cons, drop-drop, getD-drop}
+use lib.Seq.{drop-drop, getD-drop}
 use borrow.Author.Tests.{eq-eqb, ne-eqb, eqb-true}
+use Rattle.octets.proofs.Front.{at-front, pair-front}
 use Rattle.framing.specs.Event.{iac}
 use Rattle.framing.specs.Write.{doubled}
 use Rattle.framing.specs.Read.{undoubled}
 use Rattle.framing.specs.Scan.{width, count, span}
-
-pub at-front : (s : List ℕ) (i : ℕ) → i < length s → drop i s ≡ getD s i 0 ∷ drop (i + 1) s
-at-front s i h = rw (add-one, drop-cons s i 0)
-
-pub pair-front : (s : List ℕ) (i : ℕ) → i + 1 < length s → drop i s ≡ getD s i 0 ∷ getD s (i + 1) 0 ∷ drop (i + 1 + 1) s
-pair-front s i h =
-    let g : i < length s = omega arith in
-    at-front s i g ∙ ap (λ l. getD s i 0 ∷ l) (at-front s (i + 1) h)
 
 -- a data byte stands at the front: the stretch is that byte and the stretch behind it
 record Unit-at (bs : List ℕ) : Type 0 where

@@ -2,23 +2,21 @@
 -- Assumes nothing.
 use mathlib.Core.Path.{_≡_, refl, sym, ap, _∙_}
 use mathlib.Core.Bool.{Bool, true, false}
-use mathlib.Core.List.{List, [], _∷_, _++_, append-assoc}
+use mathlib.Core.List.{List, [], _∷_, _++_}
 use Prim.Native.Nat.{ℕ, _+_, _*_, _≤_, _<_}
-use native.Mathlib.Numerals.{add-one}
 use native.Mathlib.Omega.{arith}
 use lib.Dec.{eqb}
-use lib.ListN.{length, take, drop, getD, set, length-append, drop-of-length-le}
-use lib.Seq.{sets, sets-eq}
+use lib.ListN.{length, drop, getD, set, length-append, drop-of-length-le}
+use lib.Seq.{sets}
 use borrow.Author.Tests.{lt-ltb, le-ltb, eq-eqb, ne-eqb}
 use Rattle.framing.specs.declared.Written.the-variants.{Wrote, Refused}
 use Rattle.framing.specs.Event.{Event, run, subnegotiation, iac, sb, se}
 use Rattle.framing.specs.Write.{doubled, written, writable}
 use Rattle.framing.specs.Promise.{writeOf, unwritable}
 use Rattle.framing.proofs.Stretch.{doubled-iac, doubled-other, doubled-append}
-use Rattle.framing.proofs.Widths.{at-front}
-use Rattle.framing.proofs.Places.{empty}
+use Rattle.octets.proofs.Front.{empty, at-front}
 use Rattle.octets.specs.Lent.{outcome, overwrite}
-use Rattle.octets.proofs.Overwrite.{length-overwrite, overwrite-append}
+use Rattle.octets.proofs.Overwrite.{length-overwrite, overwrite-append, stored, stored-pair}
 use Rattle.refusal.specs.Refusal.{noRoom}
 
 -- one byte
@@ -50,14 +48,6 @@ doubled-at-most (b ∷ d) = go (eqb b iac) refl (doubled-at-most d)
     go : (t : Bool) → eqb b iac ≡ t → length (doubled d) ≤ 2 * length d → length (doubled (b ∷ d)) ≤ 2 * length (b ∷ d)
     go true e h = rw e (omega arith)
     go false e h = rw e (omega arith)
-
--- stores in a row are one write
-pub stored : (vs l : List ℕ) (at : ℕ) → at + length vs ≤ length l → sets l at vs ≡ overwrite l at vs
-unfolding overwrite
-stored vs l at h = sets-eq vs l at h ∙ append-assoc (take at l) vs (drop (at + length vs) l)
-
-pub stored-pair : (l : List ℕ) (at a b : ℕ) → at + 2 ≤ length l → set (set l at a) (at + 1) b ≡ overwrite l at (a ∷ b ∷ [])
-stored-pair l at a b h = rw add-one (stored (a ∷ b ∷ []) l at h)
 
 -- the writer's stores for a subnegotiation: what opens it, its payload, what closes it
 pub stored-subnegotiation : (o end : ℕ) (p out : List ℕ) → end ≡ 3 + length (doubled p) → end + 2 ≤ length out

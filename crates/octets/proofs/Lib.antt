@@ -4,3 +4,4 @@ pub mod Order
 pub mod Overwrite
 pub mod Promise
 pub mod Same
+pub mod Front

@@ -7,7 +7,7 @@ use native.Mathlib.Nat.{add-zero, zero-add, add-assoc}
 use native.Mathlib.Numerals.{add-one}
 use native.Mathlib.Omega.{arith}
 use lib.ListN.{length, getD, take, drop, set, length-append, length-drop, take-append-drop}
-use lib.Seq.{length-take-le, take-append-le, drop-append-le, take-add, drop-drop, take-at, drop-at, take-append-seam, set-split, take-set-le, drop-cons}
+use lib.Seq.{length-take-le, take-append-le, drop-append-le, take-add, drop-drop, take-at, drop-at, take-append-seam, set-split, take-set-le, drop-cons, sets, sets-eq}
 use borrow.Rule.Slice.PartMut.{midOf, putMid}
 use Rattle.octets.specs.Lent.{overwrite}
 
@@ -108,3 +108,11 @@ take-overwrite l at x h =
 
 pub take-overwrite-front : (l x : List ℕ) → take (length x) (overwrite l 0 x) ≡ x
 take-overwrite-front l x = rw overwrite-front (take-append-seam x (drop (length x) l))
+
+-- stores in a row are one write
+pub stored : (vs l : List ℕ) (at : ℕ) → at + length vs ≤ length l → sets l at vs ≡ overwrite l at vs
+unfolding overwrite
+stored vs l at h = sets-eq vs l at h ∙ append-assoc (take at l) vs (drop (at + length vs) l)
+
+pub stored-pair : (l : List ℕ) (at a b : ℕ) → at + 2 ≤ length l → set (set l at a) (at + 1) b ≡ overwrite l at (a ∷ b ∷ [])
+stored-pair l at a b h = rw add-one (stored (a ∷ b ∷ []) l at h)

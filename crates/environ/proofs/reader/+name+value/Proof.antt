@@ -1,15 +1,15 @@
 -- `environ::reader::name` and `environ::reader::value` meet their contracts: each way through either is one of the laws of the turns. What is
 -- left of the payload falls; a value reader that finds no VALUE hands on all of it, so it counts one more. Assumes nothing.
-use mathlib.Core.Path.{_≡_, sym, ap, _∙_}
+use mathlib.Core.Path.{sym, _∙_}
 use native.Mathlib.Omega.{arith}
 use lib.ListN.{length, drop}
 use borrow.Author.Tests.{not-true, not-false}
 use Rattle.refusal.specs.Refusal.{noVariable, badEscape, tooManyVariables}
 use Rattle.environ.specs.Scan.{textOf}
-use Rattle.framing.proofs.Places.{empty}
+use Rattle.octets.proofs.Front.{empty, to-the-end}
 use Rattle.environ.proofs.Scanning.{gives-some}
 use Rattle.environ.proofs.Turning.{from-nil, from-value, from-other, from-kind, names-full, names-broken, names-empty, name-none, name-fault, name-turn}
-use Rattle.environ.proofs.Turning.{value-none, value-turn, value-broken, value-fault, to-the-end}
+use Rattle.environ.proofs.Turning.{value-none, value-turn, value-broken, value-fault}
 use Prim.Native.Nat.{ℕ, _+_, _*_, _<_}
 use borrow.Author.Needs.{needs}
 use borrow.Fn.Kinds.{In}

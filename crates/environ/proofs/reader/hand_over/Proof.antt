@@ -1,5 +1,5 @@
 -- `environ::reader::hand_over` meets its contract: its ways out are those of `handed`. Assumes nothing.
-use mathlib.Core.Path.{_≡_, sym, _∙_}
+use mathlib.Core.Path.{sym, _∙_}
 use native.Mathlib.Omega.{arith}
 use Rattle.octets.proofs.Promise.{put-whole}
 use Rattle.environ.proofs.Handing.{handed-repeated, handed-no-bytes, handed-no-numbers, handed-all}

@@ -6,7 +6,7 @@ use native.Mathlib.Omega.{arith}
 use lib.ListN.{length, length-set}
 use borrow.Author.Needs.{needs}
 use Rattle.variables.specs.Variable.{ESC}
-use Rattle.framing.proofs.Writing.{stored, stored-pair}
+use Rattle.octets.proofs.Overwrite.{stored, stored-pair}
 use Rattle.environ_writer.proofs.Writing.{escaped-low, escaped-high}
 use Rattle.environ_writer.proofs.writer.put_escaped.Statement.{statement}
 use Rattle.environ_writer.proofs.writer.put_escaped.Tie as tie

@@ -9,7 +9,7 @@ use borrow.Author.Needs.{needs}
 use Rattle.octets.specs.Lent.{overwrite}
 use Rattle.octets.proofs.Overwrite.{overwrite-nil}
 use Rattle.framing.specs.Gather.{dataAt}
-use Rattle.framing.proofs.Places.{empty}
+use Rattle.octets.proofs.Front.{empty}
 use Rattle.framing.proofs.records.copy_record.Statement.{statement}
 use Rattle.framing.proofs.records.copy_record.Tie as tie
 

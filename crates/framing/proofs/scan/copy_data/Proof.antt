@@ -10,7 +10,7 @@ use Rattle.octets.specs.Lent.{overwrite}
 use Rattle.octets.proofs.Overwrite.{overwrite-nil, overwrite-cons}
 use Rattle.framing.specs.Read.{undoubled}
 use Rattle.framing.specs.Scan.{count as count·of}
-use Rattle.framing.proofs.Places.{empty}
+use Rattle.octets.proofs.Front.{empty}
 use Rattle.framing.proofs.Widths.{Next, some-next}
 use Rattle.framing.proofs.scan.copy_data.Statement.{statement}
 use Rattle.framing.proofs.scan.copy_data.Tie as tie

@@ -4,7 +4,8 @@ use mathlib.Core.List.{[], _∷_}
 use Prim.Native.Nat.{_+_, _≤_}
 use native.Mathlib.Omega.{arith}
 use lib.ListN.{length, length-set}
-use Rattle.framing.proofs.Writing.{doubled-one-iac, doubled-one, stored, stored-pair}
+use Rattle.framing.proofs.Writing.{doubled-one-iac, doubled-one}
+use Rattle.octets.proofs.Overwrite.{stored, stored-pair}
 use borrow.Author.Needs.{needs}
 use Rattle.framing.proofs.writer.put_doubled.Statement.{statement}
 use Rattle.framing.proofs.writer.put_doubled.Tie as tie

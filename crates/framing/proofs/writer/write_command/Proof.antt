@@ -5,7 +5,8 @@ use borrow.Author.Tests.{not-true, not-false}
 use Rattle.framing.specs.Event.{command, iac}
 use Rattle.framing.specs.Write.{written, writable}
 use Rattle.framing.specs.Promise.{unwritable}
-use Rattle.framing.proofs.Writing.{not-written, not-fitting, fitting, stored}
+use Rattle.framing.proofs.Writing.{not-written, not-fitting, fitting}
+use Rattle.octets.proofs.Overwrite.{stored}
 use borrow.Author.Needs.{needs}
 use Rattle.framing.proofs.writer.write_command.Statement.{statement}
 use Rattle.framing.proofs.writer.write_command.Tie as tie

@@ -6,7 +6,8 @@ use lib.ListN.{length-set}
 use Rattle.octets.specs.Lent.{overwrite}
 use Rattle.framing.specs.Event.{negotiation, iac}
 use Rattle.framing.specs.Write.{written, writable}
-use Rattle.framing.proofs.Writing.{not-fitting, fitting, stored}
+use Rattle.framing.proofs.Writing.{not-fitting, fitting}
+use Rattle.octets.proofs.Overwrite.{stored}
 use borrow.Author.Needs.{needs}
 use Rattle.framing.proofs.writer.write_negotiation.Statement.{statement}
 use Rattle.framing.proofs.writer.write_negotiation.Tie as tie
