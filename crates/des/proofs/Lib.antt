@@ -1,9 +1,5 @@
 pub mod Each
 pub mod Linear
-pub mod Mixing
 pub mod Parity
 pub mod Permutations
-pub mod Places
-pub mod Selection
 pub mod Sizes
-pub mod Worked

@@ -1,7 +1,5 @@
-pub mod Blocks
 pub mod Tables
+pub mod Blocks
 pub mod Schedule
 pub mod Cipher
-pub mod Password
-pub mod Near
 pub mod Theorems

@@ -1,16 +1,2 @@
-// DES (FIPS 46): enciphering, and cipher block chaining from zeros. Blocks and keys are 64-bit numbers, the first bit highest.
-// What is right is said in `specs/`: `Tables.antt`, `Schedule.antt` and `Cipher.antt` are the standard's figures.
-mod boxes;
-mod chain;
-mod cipher;
-mod permutation;
-mod schedule;
-mod tables;
-
-pub use chain::cbc_last;
-pub use cipher::encipher;
-pub use cipher::encipher_with;
-pub use permutation::final_permutation;
-pub use permutation::initial_permutation;
-pub use schedule::key_schedule;
-pub use schedule::prepare_key;
+// DES (FIPS 46): blocks and keys are 64-bit numbers, the first bit highest. This crate has what is right, and no function: `specs/Tables.antt`,
+// `specs/Schedule.antt` and `specs/Cipher.antt` are the standard's figures. The code is in `des_permutation`, `des_schedule` and `des_cipher`.

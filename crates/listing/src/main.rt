@@ -1,5 +1,5 @@
-// Lists the events of standard input, at most 65,536 bytes. Here is only input and output: the listing is `lines::list`.
-use lines::Listed;
+// Lists the events of standard input, at most 65,536 bytes. Here is only input and output: the listing is `telnet_listing::list`.
+use telnet_listing::Listed;
 
 fn main() {
     // One byte more than may come tells that there are too many.
@@ -12,7 +12,7 @@ fn main() {
     // Room for any listing. The longest is that of 21,845 times 41 FF F9, a data run of one byte and a command with a number of three
     // digits, and of 41 once more: 65,536 bytes, 43,691 events, 582,430 bytes of text with `65536 END`.
     let mut out = [0u8; 582430];
-    match lines::list(&input[..n], &mut out) {
+    match telnet_listing::list(&input[..n], &mut out) {
         Listed::Wrote(m) => {
             io::write_all(1, &out[..m]);
         }

@@ -5,13 +5,13 @@ use Prim.Native.Nat.{ℕ, _-_}
 use lib.Dec.{eqb, leb}
 use lib.ListN.{length}
 use Rattle.names.specs.declared.Name.{Name}
-use Rattle.names.specs.Range.{within, every}
+use Rattle.names.specs.Range.{inRange, every}
 use Rattle.names.specs.Padding.{filled}
 use Rattle.octets.specs.Choice.{if_then_else_}
 
 -- a lower case letter raised, any other byte as it is
 unfoldable pub raisedByte : ℕ → ℕ
-raisedByte b = if within 0x61 0x7A b then b - 0x20 else b
+raisedByte b = if inRange 0x61 0x7A b then b - 0x20 else b
 
 -- a text with its lower case raised
 abbrev pub raised : List ℕ → List ℕ
@@ -19,7 +19,7 @@ raised text = map raisedByte text
 
 -- whether a byte is one of A-Z, 0-9, $ # @ _
 unfoldable pub isNameByte : ℕ → Bool
-isNameByte b = within 0x41 0x5A b || within 0x30 0x39 b || eqb b 0x24 || eqb b 0x23 || eqb b 0x40 || eqb b 0x5F
+isNameByte b = inRange 0x41 0x5A b || inRange 0x30 0x39 b || eqb b 0x24 || eqb b 0x23 || eqb b 0x40 || eqb b 0x5F
 
 -- whether a text is a name of at most so many bytes, lower case raised first
 unfoldable pub isName : ℕ → List ℕ → Bool

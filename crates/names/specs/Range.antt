@@ -5,8 +5,8 @@ use Prim.Native.Nat.{ℕ}
 use lib.Dec.{leb}
 
 -- whether a byte lies in a range, its two ends included
-abbrev pub within : ℕ → ℕ → ℕ → Bool
-within low high b = leb low b && leb b high
+abbrev pub inRange : ℕ → ℕ → ℕ → Bool
+inRange low high b = leb low b && leb b high
 
 -- whether each byte of a text passes a test
 unfoldable pub every : (ℕ → Bool) → List ℕ → Bool

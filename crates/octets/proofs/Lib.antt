@@ -3,5 +3,6 @@ pub mod Decimal
 pub mod Order
 pub mod Overwrite
 pub mod Promise
-pub mod Same
+pub mod Equality
 pub mod Front
+pub mod Comparison

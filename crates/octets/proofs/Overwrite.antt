@@ -1,13 +1,13 @@
 -- The laws of `overwrite`: a write of nothing and of one byte, two writes one behind the other, a write into a part that was lent, and what stands there after it.
 -- Assumes nothing.
 use mathlib.Core.Path.{_≡_, refl, sym, ap, _∙_}
-use mathlib.Core.List.{List, [], _∷_, _++_, append-assoc}
+use mathlib.Core.List.{List, [], _∷_, _++_, append-assoc, append-nil}
 use Prim.Native.Nat.{ℕ, suc, _+_, _≤_, _<_}
 use native.Mathlib.Nat.{add-zero, zero-add, add-assoc}
 use native.Mathlib.Numerals.{add-one}
 use native.Mathlib.Omega.{arith}
 use lib.ListN.{length, getD, take, drop, set, length-append, length-drop, take-append-drop}
-use lib.Seq.{length-take-le, take-append-le, drop-append-le, take-add, drop-drop, take-at, drop-at, take-append-seam, set-split, take-set-le, drop-cons, sets, sets-eq}
+use lib.Seq.{length-take-le, take-append-le, drop-append-le, take-add, drop-drop, take-at, drop-at, take-append-seam, set-split, take-set-le, drop-cons, drop-length, sets, sets-eq}
 use borrow.Rule.Slice.PartMut.{midOf, putMid}
 use Rattle.octets.specs.Lent.{overwrite}
 
@@ -116,3 +116,7 @@ stored vs l at h = sets-eq vs l at h ∙ append-assoc (take at l) vs (drop (at +
 
 pub stored-pair : (l : List ℕ) (at a b : ℕ) → at + 2 ≤ length l → set (set l at a) (at + 1) b ≡ overwrite l at (a ∷ b ∷ [])
 stored-pair l at a b h = rw add-one (stored (a ∷ b ∷ []) l at h)
+
+-- bytes over the whole of a buffer
+pub overwrite-whole : (l x : List ℕ) → length x ≡ length l → overwrite l 0 x ≡ x
+overwrite-whole l x h = overwrite-front l x ∙ rw (h, drop-length, append-nil)

@@ -8,6 +8,8 @@ use lib.ListN.{length}
 use borrow.Author.Tests.{le-leb, lt-leb}
 use Rattle.octets.specs.Lent.{Outcome, outcome, overwrite}
 use Rattle.octets.specs.Promise.{putAt}
+use Rattle.octets.proofs.Overwrite.{overwrite-whole}
+use native.Mathlib.Omega.{arith}
 
 pub put-fits : (x l : List ℕ) (at : ℕ) → at + length x ≤ length l → putAt x l at ≡ outcome true (overwrite l at x)
 unfolding putAt
@@ -20,3 +22,7 @@ put-refused x l at h = rw (lt-leb (at + length x) (length l) h)
 -- what is left where there is room
 pub put-whole : (x b : List ℕ) (at : ℕ) {t : Bool} {l : List ℕ} → at + length x ≤ length b → outcome t l ≡ putAt x b at → l ≡ overwrite b at x
 put-whole x b at h e = ap (λ (o : Outcome Bool). o .lent) (e ∙ put-fits x b at h)
+
+-- bytes that fill a buffer
+pub put-filling : (x l : List ℕ) → length x ≡ length l → putAt x l 0 ≡ outcome true x
+put-filling x l h = put-fits x l 0 (omega arith) ∙ ap (outcome true) (overwrite-whole l x h)

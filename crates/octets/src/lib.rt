@@ -6,6 +6,7 @@ ghost use lib.ListN.{length};
 ghost use Rattle.octets.specs.Decimal.{decimal};
 ghost use Rattle.octets.specs.Lent.{outcome, overwrite};
 ghost use Rattle.octets.specs.Promise.{putAt};
+ghost use Rattle.octets.specs.Same.{same};
 
 // Whether `count` bytes at `at` reach past `length`. The sum of the two might wrap, so it is not made.
 pub fn no_room(count: usize, at: usize, length: usize) -> bool
@@ -77,4 +78,21 @@ pub fn put_decimal(n: u64, buffer: &mut [u8], at: usize) -> bool
     }
     put_digits(n, count, buffer, at);
     true
+}
+
+// Whether two lists of bytes are equal. Every byte is looked at whatever was found before it, so that the time tells nothing of where they
+// differ; the lengths are no secret.
+pub fn same(a: &[u8], b: &[u8]) -> bool
+    ensures { λ r. ⌜ r ≡ same (now (a .entry)) (now (b .entry)) ⌝ }
+{
+    if a.len() != b.len() {
+        return false;
+    }
+    let mut differences: u8 = 0;
+    let mut i = 0;
+    while i < a.len() {
+        differences = differences | (a[i] ^ b[i]);
+        i += 1;
+    }
+    differences == 0
 }

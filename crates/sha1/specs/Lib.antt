@@ -1,2 +1,2 @@
 pub mod Sha1
-pub mod Code
+pub mod near

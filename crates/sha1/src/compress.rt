@@ -4,7 +4,7 @@ ghost use Prim.Native.Nat.{_*_, _<_};
 ghost use lib.ListN.{length, take, drop};
 ghost use Rattle.words.specs.Blocks.{cut, wordsOf};
 ghost use Rattle.sha1.specs.Sha1.{_⊞_, f, K, schedule, round, rounds, compressed, hashed};
-ghost use Rattle.sha1.specs.Code.{five};
+ghost use Rattle.sha1.specs.near.Code.{five};
 
 // The five words of a hash value, or the working variables.
 pub struct Words {

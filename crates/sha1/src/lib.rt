@@ -8,7 +8,7 @@ ghost use Prim.Native.Nat.{_≤_};
 ghost use lib.Seq.{sets};
 ghost use Rattle.words.specs.BigEndian.{bytes};
 ghost use Rattle.sha1.specs.Sha1.{H⁰, digestOf, sha1};
-ghost use Rattle.sha1.specs.Code.{five};
+ghost use Rattle.sha1.specs.near.Code.{five};
 
 // The hash value before the first block.
 fn initial() -> Words

@@ -11,7 +11,7 @@ use Rattle.octets.specs.Lent.{overwrite}
 use Rattle.octets.proofs.Overwrite.{overwrite-front, take-written, length-overwrite}
 use Rattle.words.specs.BigEndian.{bytes}
 use Rattle.words.specs.Padding.{zeroBits, padding}
-use Rattle.words.specs.Tail.{end, tail}
+use Rattle.words.specs.near.Tail.{end, tail}
 use Rattle.words.proofs.BigEndian.{length-bytes}
 use Rattle.words.proofs.Padding.{zero-bytes}
 

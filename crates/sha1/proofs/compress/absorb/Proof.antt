@@ -5,7 +5,7 @@ use native.Mathlib.Omega.{arith}
 use lib.ListN.{length, drop, length-drop}
 use Rattle.words.specs.Blocks.{cut}
 use Rattle.sha1.specs.Sha1.{hashed}
-use Rattle.sha1.specs.Code.{five}
+use Rattle.sha1.specs.near.Code.{five}
 use Rattle.sha1.proofs.Chain.{hashed-more, hashed-none}
 use borrow.Author.Needs.{needs}
 use Rattle.sha1.proofs.compress.absorb.Statement.{statement}

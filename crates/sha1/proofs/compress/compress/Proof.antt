@@ -1,7 +1,7 @@
 -- `sha1::compress::compress` meets its contract: four times twenty rounds over the schedule, and the sums. Assumes nothing.
 use mathlib.Core.Path.{_≡_, sym, _∙_, ap}
 use Rattle.sha1.specs.Sha1.{rounds, schedule, added, compressed}
-use Rattle.sha1.specs.Code.{five}
+use Rattle.sha1.specs.near.Code.{five}
 use Rattle.sha1.proofs.Chain.{four-twenties}
 use borrow.Author.Needs.{needs}
 use Rattle.sha1.proofs.compress.compress.Statement.{statement}

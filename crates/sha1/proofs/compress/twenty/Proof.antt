@@ -5,7 +5,7 @@ use Prim.Native.Nat.{suc, _+_, _-_, _*_, _≤_}
 use native.Mathlib.Omega.{arith}
 use lib.ListN.{length, take, drop, getD}
 use Rattle.sha1.specs.Sha1.{rounds}
-use Rattle.sha1.specs.Code.{five}
+use Rattle.sha1.specs.near.Code.{five}
 use Rattle.sha1.proofs.Rounds.{same-round, rounds-step}
 use borrow.Author.Needs.{needs}
 use Rattle.sha1.proofs.compress.twenty.Statement.{statement}

@@ -1,5 +1,0 @@
-pub mod Ends
-pub mod Agreement
-pub mod Replay
-pub mod Turn
-pub mod Worked

@@ -1,0 +1,114 @@
+-- Variables, their bytes and their records: what is recorded is held again (`Theorems.HoldsAgain`), and lists of variables and of records behind
+-- one another and in part. Assumes nothing.
+use mathlib.Core.Path.{_≡_, refl, sym, ap, _∙_}
+use mathlib.Core.List.{List, [], _∷_, _++_, append-assoc}
+use mathlib.Core.Bool.{_&&_}
+use Prim.Native.Nat.{ℕ, zero, suc, _+_, _*_, _/_, _≤_}
+use native.Mathlib.Nat.{add-zero}
+use native.Mathlib.Omega.{arith}
+use lib.Dec.{T, le→leb}
+use lib.ListN.{length, take, drop, length-append, take-append-drop}
+use lib.Seq.{take-append-seam, drop-append-seam, drop-drop}
+use mir.Facts.{and-yes, yes-and}
+use Rattle.octets.specs.Lent.{overwrite}
+use Rattle.octets.proofs.Overwrite.{take-overwrite, length-overwrite}
+use Rattle.env.specs.Variable.{Variable, variable, isKind}
+use Rattle.env.specs.Write.{kindsGood}
+use Rattle.env.specs.Numbers.{packed, recorded, part, held, fits, placed}
+use Rattle.env.specs.Theorems.{HoldsAgain}
+
+pub packed-append : (vs ws : List Variable) → packed (vs ++ ws) ≡ packed vs ++ packed ws
+unfolding packed
+packed-append [] ws = refl
+packed-append (v ∷ vs) ws = rw (packed-append vs ws, append-assoc, append-assoc)
+
+pub recorded-append : (at : ℕ) (vs ws : List Variable) → recorded at (vs ++ ws) ≡ recorded at vs ++ recorded (at + length (packed vs)) ws
+unfolding packed recorded
+recorded-append at [] ws = rw add-zero
+recorded-append at (v ∷ vs) ws =
+    let behind = at + length (v .name) + length (v .value) in
+    let e : at + length (packed (v ∷ vs)) ≡ behind + length (packed vs) = simp length-append (omega arith) in
+    rw (recorded-append behind vs ws, ← e)
+
+pub length-recorded : (at : ℕ) (vs : List Variable) → length (recorded at vs) ≡ 5 * length vs
+unfolding recorded
+length-recorded at [] = refl
+length-recorded at (v ∷ vs) = omega (arith, length-recorded (at + length (v .name) + length (v .value)) vs)
+
+-- a list that begins with a ++ b: a stands in front, and b behind it
+part-apart : (bytes : List ℕ) (at : ℕ) (a b : List ℕ) → part bytes at (length (a ++ b)) ≡ a ++ b
+    → (part bytes at (length a) ≡ a) × (part bytes (at + length a) (length b) ≡ b)
+unfolding part
+part-apart bytes at a b h =
+    let rest = drop (length (a ++ b)) (drop at bytes) in
+    let e : drop at bytes ≡ a ++ (b ++ rest) = sym (take-append-drop (length (a ++ b)) (drop at bytes)) ∙ rw (h, append-assoc) in
+    (rw e (take-append-seam a (b ++ rest)), rw (← drop-drop (length a) at bytes, e, drop-append-seam a (b ++ rest)) (take-append-seam b rest))
+
+-- where variables are packed, their records hold them
+pub held-recorded : (bytes : List ℕ) (at : ℕ) (vs : List Variable) → part bytes at (length (packed vs)) ≡ packed vs
+    → held bytes (recorded at vs) ≡ vs
+unfolding packed recorded held
+held-recorded bytes at [] h = refl
+held-recorded bytes at (v ∷ vs) h =
+    let name = part-apart bytes at (v .name) (v .value ++ packed vs) h in
+    let value = part-apart bytes (at + length (v .name)) (v .value) (packed vs) (name .1) in
+    rw (name .0, value .0, held-recorded bytes (at + length (v .name) + length (v .value)) vs (value .1))
+
+-- where variables have kinds, and room, their records are placed
+pub placed-recorded : (bytes : List ℕ) (at : ℕ) (vs : List Variable) → T (kindsGood vs) → at + length (packed vs) ≤ length bytes
+    → T (placed bytes (recorded at vs))
+unfolding packed recorded placed fits kindsGood
+placed-recorded bytes at [] g h = tt
+placed-recorded bytes at (v ∷ vs) g h =
+    let good = and-yes (isKind (v .kind)) (kindsGood vs) g in
+    let name = length (v .name) in
+    let value = length (v .value) in
+    let all : at + (name + (value + length (packed vs))) ≤ length bytes = simp length-append at h in
+    let in-name = le→leb (at + name) (length bytes) (omega arith) in
+    let in-value = le→leb (at + name + value) (length bytes) (omega arith) in
+    yes-and (isKind (v .kind) && (fits bytes at name && fits bytes (at + name) value)) (placed bytes (recorded (at + name + value) vs))
+    (yes-and (isKind (v .kind)) (fits bytes at name && fits bytes (at + name) value) (good .0)
+    (yes-and (fits bytes at name) (fits bytes (at + name) value) in-name in-value))
+    (placed-recorded bytes (at + name + value) vs (good .1) (omega arith))
+
+pub holds-again : HoldsAgain
+unfolding part
+holds-again bytes at vs h =
+    let after = overwrite bytes at (packed vs) in
+    let fit : at + length (packed vs) ≤ length after = rw (length-overwrite bytes at (packed vs) h) h in
+    (held-recorded after at vs (take-overwrite bytes at (packed vs) h), λ g. placed-recorded after at vs g fit)
+
+-- whole records, so many, behind one another
+pub held-append : (bytes : List ℕ) (n : ℕ) (ns ms : List ℕ) → length ns ≡ 5 * n → held bytes (ns ++ ms) ≡ held bytes ns ++ held bytes ms
+unfolding held
+held-append bytes n [] ms h = refl
+held-append bytes n (k ∷ []) ms h = absurd (omega arith)
+held-append bytes n (k ∷ a ∷ []) ms h = absurd (omega arith)
+held-append bytes n (k ∷ a ∷ i ∷ []) ms h = absurd (omega arith)
+held-append bytes n (k ∷ a ∷ i ∷ b ∷ []) ms h = absurd (omega arith)
+held-append bytes zero (k ∷ a ∷ i ∷ b ∷ j ∷ ns) ms h = absurd (omega arith)
+held-append bytes (suc n) (k ∷ a ∷ i ∷ b ∷ j ∷ ns) ms h =
+    ap (λ l. variable k (part bytes a i) (part bytes b j) ∷ l) (held-append bytes n ns ms (omega arith))
+
+five-more : (n : ℕ) → 5 * suc n ≡ suc (suc (suc (suc (suc (5 * n)))))
+five-more n = omega arith
+
+pub held-take : (bytes : List ℕ) (n : ℕ) (ns : List ℕ) → held bytes (take (5 * n) ns) ≡ take n (held bytes ns)
+unfolding held
+held-take bytes zero ns = refl
+held-take bytes (suc n) [] = rw (five-more n)
+held-take bytes (suc n) (k ∷ []) = rw (five-more n)
+held-take bytes (suc n) (k ∷ a ∷ []) = rw (five-more n)
+held-take bytes (suc n) (k ∷ a ∷ i ∷ []) = rw (five-more n)
+held-take bytes (suc n) (k ∷ a ∷ i ∷ b ∷ []) = rw (five-more n)
+held-take bytes (suc n) (k ∷ a ∷ i ∷ b ∷ j ∷ ns) =
+    rw (five-more n) (ap (λ l. variable k (part bytes a i) (part bytes b j) ∷ l) (held-take bytes n ns))
+
+pub length-held : (bytes ns : List ℕ) → length (held bytes ns) ≡ length ns / 5
+unfolding held
+length-held bytes [] = refl
+length-held bytes (k ∷ []) = refl
+length-held bytes (k ∷ a ∷ []) = refl
+length-held bytes (k ∷ a ∷ i ∷ []) = refl
+length-held bytes (k ∷ a ∷ i ∷ b ∷ []) = refl
+length-held bytes (k ∷ a ∷ i ∷ b ∷ j ∷ ns) = omega (arith, length-held bytes ns)

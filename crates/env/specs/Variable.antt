@@ -1,0 +1,69 @@
+-- Environment variables and the codes of RFC 1572, section 2, as the specification reads them ("Environment strings").
+use Prim.Native.Nat.{ℕ}
+use mathlib.Core.Bool.{Bool, false, _||_, _&&_}
+use mathlib.Core.List.{List, [], _∷_}
+use lib.Dec.{eqb}
+use Rattle.octets.specs.Choice.{if_then_else_}
+use Rattle.octets.specs.Same.{same}
+
+-- the first byte of a payload: IS answers a SEND, INFO tells of a change
+abbrev pub IS : ℕ
+IS = 0
+
+abbrev pub INFO : ℕ
+INFO = 2
+
+unfoldable pub isFirst : ℕ → Bool
+isFirst b = eqb b IS || eqb b INFO
+
+-- what bytes behind it stand for
+abbrev pub VAR : ℕ
+VAR = 0
+
+abbrev pub VALUE : ℕ
+VALUE = 1
+
+abbrev pub ESC : ℕ
+ESC = 2
+
+abbrev pub USERVAR : ℕ
+USERVAR = 3
+
+-- a variable: its kind, VAR or USERVAR, its name, and its value
+pub record Variable : Type 0 where
+  pub kind : ℕ
+  pub name : List ℕ
+  pub value : List ℕ
+
+abbrev pub variable : ℕ → List ℕ → List ℕ → Variable
+variable k n v = record { kind = k; name = n; value = v }
+
+unfoldable pub isKind : ℕ → Bool
+isKind k = eqb k VAR || eqb k USERVAR
+
+-- a payload has at most so many
+abbrev pub variableLimit : ℕ
+variableLimit = 64
+
+-- a variable is of a kind and has a name
+unfoldable pub is : ℕ → List ℕ → Variable → Bool
+is kind name v = eqb kind (v .kind) && same name (v .name)
+
+-- one of some variables is
+unfoldable pub among : ℕ → List ℕ → List Variable → Bool
+among kind name [] = false
+among kind name (v ∷ vs) = is kind name v || among kind name vs
+
+-- the same kind and name twice
+unfoldable pub repeated : List Variable → Bool
+repeated [] = false
+repeated (v ∷ vs) = among (v .kind) (v .name) vs || repeated vs
+
+-- a look-up by kind and name: the value of the first such variable
+pub data Lookup : Type 0 where
+  absent : Lookup
+  present : List ℕ → Lookup
+
+unfoldable pub lookup : ℕ → List ℕ → List Variable → Lookup
+lookup kind name [] = absent
+lookup kind name (v ∷ vs) = if is kind name v then present (v .value) else lookup kind name vs

@@ -1,0 +1,71 @@
+-- What `writeInto` answers, by the first of its tests that refuses. Assumes nothing.
+use mathlib.Core.Path.{_≡_}
+use mathlib.Core.Bool.{true, false}
+use mathlib.Core.List.{List}
+use Prim.Native.Nat.{ℕ, _/_, _≤_, _<_}
+use native.Mathlib.Omega.{arith}
+use lib.ListN.{length}
+use borrow.Author.Tests.{lt-ltb, le-ltb}
+use Rattle.env_writer.specs.declared.Written.the-variants.{Wrote, Refused}
+use Rattle.env_writer.specs.Promise.{put, writeInto}
+use Rattle.env.specs.Variable.{isFirst, variableLimit, repeated}
+use Rattle.env.specs.Write.{none, against, nameless, objection, payloadOf}
+use Rattle.env.specs.Numbers.{held, placed}
+use Rattle.env_records.proofs.Held.{length-held}
+use Rattle.telnet.specs.Event.{payloadLimit}
+use Rattle.refusal.specs.Refusal.{payloadTooLong, noRoom, notIsOrInfo, noVariable, tooManyVariables, repeatedVariable, badVariableRecord}
+use Rattle.octets.specs.Lent.{outcome, overwrite}
+
+module _ (first : ℕ) (bytes l out : List ℕ) where
+  pub not-first : isFirst first ≡ false → outcome (Refused notIsOrInfo) out ≡ writeInto first bytes l out
+  unfolding writeInto
+  not-first e = rw e
+
+  pub not-placed : isFirst first ≡ true → placed bytes l ≡ false → outcome (Refused badVariableRecord) out ≡ writeInto first bytes l out
+  unfolding writeInto
+  not-placed e p = rw (e, p)
+
+-- good records, by what is held against their variables
+module _ (first : ℕ) (bytes l out : List ℕ) (e : isFirst first ≡ true) (p : placed bytes l ≡ true) where
+  notRead : {n : ℕ} → objection first (held bytes l) ≡ against n → outcome (Refused n) out ≡ writeInto first bytes l out
+  unfolding writeInto put
+  notRead o = rw (e, p, o)
+
+  pub no-name : nameless (held bytes l) ≡ true → outcome (Refused noVariable) out ≡ writeInto first bytes l out
+  unfolding objection
+  no-name n = notRead (rw n)
+
+  pub too-many : nameless (held bytes l) ≡ false → variableLimit < length l / 5 → outcome (Refused tooManyVariables) out ≡ writeInto first bytes l out
+  unfolding objection
+  too-many n m = notRead (rw (n, lt-ltb variableLimit (length (held bytes l)) (omega (arith, length-held bytes l))))
+
+  pub twice : nameless (held bytes l) ≡ false → length l / 5 ≤ variableLimit → repeated (held bytes l) ≡ true
+      → outcome (Refused repeatedVariable) out ≡ writeInto first bytes l out
+  unfolding objection
+  twice n m r = notRead (rw (n, le-ltb variableLimit (length (held bytes l)) (omega (arith, length-held bytes l)), r))
+
+-- good records and nothing against their variables but, perhaps, the length of the payload
+module _ (first : ℕ) (bytes l out : List ℕ) (e : isFirst first ≡ true) (p : placed bytes l ≡ true)
+    (n : nameless (held bytes l) ≡ false) (m : length l / 5 ≤ variableLimit) (r : repeated (held bytes l) ≡ false) where
+  few : length (held bytes l) ≤ variableLimit
+  few = omega (arith, length-held bytes l)
+
+  pub too-long : payloadLimit < length (payloadOf first (held bytes l)) → outcome (Refused payloadTooLong) out ≡ writeInto first bytes l out
+  unfolding objection
+  too-long h = notRead first bytes l out e p
+      (rw (n, le-ltb variableLimit (length (held bytes l)) few, r, lt-ltb payloadLimit (length (payloadOf first (held bytes l))) h))
+
+  fine : length (payloadOf first (held bytes l)) ≤ payloadLimit → objection first (held bytes l) ≡ none
+  unfolding objection
+  fine h = rw (n, le-ltb variableLimit (length (held bytes l)) few, r, le-ltb payloadLimit (length (payloadOf first (held bytes l))) h)
+
+  pub no-space : length (payloadOf first (held bytes l)) ≤ payloadLimit → length out < length (payloadOf first (held bytes l))
+      → outcome (Refused noRoom) out ≡ writeInto first bytes l out
+  unfolding writeInto put
+  no-space h k = rw (e, p, fine h, lt-ltb (length out) (length (payloadOf first (held bytes l))) k)
+
+  pub wrote : length (payloadOf first (held bytes l)) ≤ payloadLimit → length (payloadOf first (held bytes l)) ≤ length out
+      → {k : ℕ} → k ≡ length (payloadOf first (held bytes l)) → {o : List ℕ} → o ≡ overwrite out 0 (payloadOf first (held bytes l))
+      → outcome (Wrote k) o ≡ writeInto first bytes l out
+  unfolding writeInto put
+  wrote h g same there = rw (e, p, fine h, le-ltb (length out) (length (payloadOf first (held bytes l))) g, same, there)

@@ -1,0 +1,220 @@
+// Environment strings: writing a payload of NEW-ENVIRON. What is right is said in the crate `env`; what is answered, and left in the
+// buffer, in `specs/Promise.antt`.
+ghost use mathlib.Core.Path.{_≡_};
+ghost use mathlib.Core.Bool.{true};
+ghost use mathlib.Core.List.{List, [], _∷_};
+ghost use Prim.Native.Nat.{ℕ, _+_, min, _≤_};
+ghost use lib.ListN.{length};
+ghost use Rattle.env.specs.Write.{escaped, writtenVariable, writtenVariables, nameless};
+ghost use Rattle.env.specs.Numbers.{held, placed};
+ghost use Rattle.env_records.specs.Records.{numbersOf, variableOf};
+ghost use Rattle.telnet.specs.Event.{payloadLimit};
+ghost use Rattle.octets.specs.Lent.{outcome, overwrite};
+ghost use Rattle.env_writer.specs.Promise.{writeInto};
+use env_records::VariableRecord;
+
+// A payload that was written: its length; or the number by which it is refused.
+pub enum Written {
+    Wrote(usize),
+    Refused(u8),
+}
+
+// Whether a record is a VAR or a USERVAR, with its name and its value in the buffer.
+fn is_placed(bytes: &[u8], v: VariableRecord) -> bool
+    ensures { λ r. ⌜ r ≡ placed (now (bytes .entry)) (numbersOf v) ⌝ }
+{
+    if !env_records::is_kind(v.kind) {
+        return false;
+    }
+    if !env_records::fits(bytes.len(), v.name_at, v.name_length) {
+        return false;
+    }
+    env_records::fits(bytes.len(), v.value_at, v.value_length)
+}
+
+// Whether every record is.
+fn all_placed(bytes: &[u8], numbers: &[usize]) -> bool
+    ensures { λ r. ⌜ r ≡ placed (now (bytes .entry)) (now (numbers .entry)) ⌝ }
+{
+    let mut i = 0;
+    while i < numbers.len() / 5 {
+        if !is_placed(bytes, env_records::record_at(numbers, i)) {
+            return false;
+        }
+        i += 1;
+    }
+    true
+}
+
+// Whether a record has an empty name: over any buffer that holds all the names, so has its variable.
+fn any_nameless(numbers: &[usize]) -> bool
+    ensures { λ r. ⌜ ((bytes : List ℕ) → placed bytes (now (numbers .entry)) ≡ true → r ≡ nameless (held bytes (now (numbers .entry)))) ⌝ }
+{
+    let mut i = 0;
+    while i < numbers.len() / 5 {
+        let v = env_records::record_at(numbers, i);
+        if v.name_length == 0 {
+            return true;
+        }
+        i += 1;
+    }
+    false
+}
+
+// How many bytes of the payload a byte of a name or a value takes.
+fn escaped_width(b: u8) -> usize
+    ensures { λ r. ⌜ r ≡ length (escaped (b ∷ [])) ⌝ }
+{
+    if 3 < b {
+        return 1;
+    }
+    2
+}
+
+// How many bytes of the payload a name or a value takes.
+fn escaped_length(text: &[u8]) -> usize
+    ensures { λ r. ⌜ r ≡ length (escaped (now (text .entry))) ⌝ }
+{
+    let mut n = 0;
+    let mut i = 0;
+    while i < text.len() {
+        n += escaped_width(text[i]);
+        i += 1;
+    }
+    n
+}
+
+// A length with a name or a value behind it; past the limit, one past it. Names and values may overlap in the buffer, so that the sum of all
+// could wrap.
+fn longer(n: usize, text: &[u8]) -> usize
+    requires { ⌜ n ≤ payloadLimit + 3 ⌝ }
+    ensures { λ r. ⌜ r ≡ min (payloadLimit + 1) (n + length (escaped (now (text .entry)))) ⌝ }
+{
+    if 1024 < text.len() {
+        return 1025;
+    }
+    let m = n + escaped_length(text);
+    if 1024 < m {
+        return 1025;
+    }
+    m
+}
+
+// A length with a variable behind it, counted likewise.
+fn longer_by_variable(n: usize, bytes: &[u8], v: VariableRecord) -> usize
+    requires { ⌜ (n ≤ payloadLimit + 1) × (placed (now bytes) (numbersOf v) ≡ true) ⌝ }
+    ensures { λ r. ⌜ r ≡ min (payloadLimit + 1) (n + length (writtenVariable (variableOf (now (bytes .entry)) v))) ⌝ }
+{
+    let name = v.name_at;
+    let name_end = name + v.name_length;
+    let value = v.value_at;
+    let value_end = value + v.value_length;
+    let with_name = longer(n + 2, &bytes[name..name_end]);
+    longer(with_name, &bytes[value..value_end])
+}
+
+// The length of the payload, counted likewise, and no further once it is past the limit.
+fn measure(bytes: &[u8], numbers: &[usize]) -> usize
+    requires { ⌜ placed (now bytes) (now numbers) ≡ true ⌝ }
+    ensures { λ r. ⌜ r ≡ min (payloadLimit + 1) (1 + length (writtenVariables (held (now (bytes .entry)) (now (numbers .entry))))) ⌝ }
+{
+    let mut n = 1;
+    let mut i = 0;
+    while i < numbers.len() / 5 {
+        if 1024 < n {
+            return n;
+        }
+        n = longer_by_variable(n, bytes, env_records::record_at(numbers, i));
+        i += 1;
+    }
+    n
+}
+
+// Puts a byte of a name or a value at a place; the answer is the place behind it.
+fn put_escaped(b: u8, out: &mut [u8], at: usize) -> usize
+    requires { ⌜ at + length (escaped (b ∷ [])) ≤ length (now out) ⌝ }
+    ensures { λ r. ⌜ (r ≡ at + length (escaped (b ∷ []))) × (now (out .exit) ≡ overwrite (now (out .entry)) at (escaped (b ∷ []))) ⌝ }
+{
+    if b <= 3 {
+        out[at] = 2;
+        out[at + 1] = b;
+        return at + 2;
+    }
+    out[at] = b;
+    at + 1
+}
+
+// Puts a name or a value at a place; the answer is the place behind it.
+fn copy_escaped(text: &[u8], out: &mut [u8], at: usize) -> usize
+    requires { ⌜ at + length (escaped (now text)) ≤ length (now out) ⌝ }
+    ensures { λ r. ⌜ (r ≡ at + length (escaped (now (text .entry)))) × (now (out .exit) ≡ overwrite (now (out .entry)) at (escaped (now (text .entry)))) ⌝ }
+{
+    let mut i = 0;
+    let mut k = at;
+    while i < text.len() {
+        k = put_escaped(text[i], out, k);
+        i += 1;
+    }
+    k
+}
+
+// Puts a variable at a place; the answer is the place behind it.
+fn put_variable(bytes: &[u8], v: VariableRecord, out: &mut [u8], at: usize) -> usize
+    requires { ⌜ (placed (now bytes) (numbersOf v) ≡ true) × (at + length (writtenVariable (variableOf (now bytes) v)) ≤ length (now out)) ⌝ }
+    ensures { λ r. ⌜ (r ≡ at + length (writtenVariable (variableOf (now (bytes .entry)) v)))
+        × (now (out .exit) ≡ overwrite (now (out .entry)) at (writtenVariable (variableOf (now (bytes .entry)) v))) ⌝ }
+{
+    let name = v.name_at;
+    let name_end = name + v.name_length;
+    let value = v.value_at;
+    let value_end = value + v.value_length;
+    out[at] = v.kind as u8;
+    let k = copy_escaped(&bytes[name..name_end], out, at + 1);
+    out[k] = 1;
+    copy_escaped(&bytes[value..value_end], out, k + 1)
+}
+
+// Puts the variables behind the first byte.
+fn put_all(bytes: &[u8], numbers: &[usize], out: &mut [u8])
+    requires { ⌜ (placed (now bytes) (now numbers) ≡ true) × (1 + length (writtenVariables (held (now bytes) (now numbers))) ≤ length (now out)) ⌝ }
+    ensures { λ _. ⌜ now (out .exit) ≡ overwrite (now (out .entry)) 1 (writtenVariables (held (now (bytes .entry)) (now (numbers .entry)))) ⌝ }
+{
+    let mut i = 0;
+    let mut at = 1;
+    while i < numbers.len() / 5 {
+        at = put_variable(bytes, env_records::record_at(numbers, i), out, at);
+        i += 1;
+    }
+}
+
+// Writes a first byte, and the variables that records have over `bytes`, to the front of `out`: five numbers a record, its kind, place and
+// length of its name, place and length of its value. A refusal leaves `out` as it was.
+pub fn write(first: u8, bytes: &[u8], numbers: &[usize], out: &mut [u8]) -> Written
+    ensures { λ r. ⌜ outcome r (now (out .exit)) ≡ writeInto first (now (bytes .entry)) (now (numbers .entry)) (now (out .entry)) ⌝ }
+{
+    if !env_records::is_first(first) {
+        return Written::Refused(refusal::NOT_IS_OR_INFO);
+    }
+    if !all_placed(bytes, numbers) {
+        return Written::Refused(refusal::BAD_VARIABLE_RECORD);
+    }
+    if any_nameless(numbers) {
+        return Written::Refused(refusal::NO_VARIABLE);
+    }
+    if 64 < numbers.len() / 5 {
+        return Written::Refused(refusal::TOO_MANY_VARIABLES);
+    }
+    if env_records::repeats(bytes, numbers) {
+        return Written::Refused(refusal::REPEATED_VARIABLE);
+    }
+    let length = measure(bytes, numbers);
+    if 1024 < length {
+        return Written::Refused(refusal::PAYLOAD_TOO_LONG);
+    }
+    if out.len() < length {
+        return Written::Refused(refusal::NO_ROOM);
+    }
+    out[0] = first;
+    put_all(bytes, numbers, out);
+    Written::Wrote(length)
+}

@@ -1,4 +1,0 @@
-pub mod Put
-pub mod Given
-pub mod Lines
-pub mod Sample

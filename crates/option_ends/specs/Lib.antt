@@ -1,0 +1,5 @@
+pub mod Ends
+pub mod Agreement
+pub mod Replay
+pub mod near
+pub mod Worked

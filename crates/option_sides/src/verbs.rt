@@ -1,0 +1,62 @@
+// "On" and "off" as Telnet's four option commands.
+ghost use mathlib.Core.Path.{_≡_};
+ghost use Rattle.option_sides.specs.Verbs.{toldBy, verbFor, eventFor};
+use crate::Outgoing;
+use crate::Told;
+use crate::Whose;
+use option_rules::Command;
+use option_rules::Sending;
+use telnet::Kind;
+use telnet::Verb;
+
+// What a command that was received says, and of which side.
+pub fn told_by(verb: Verb) -> Told
+    ensures { λ r. ⌜ r ≡ toldBy verb ⌝ }
+{
+    match verb {
+        Verb::Will => Told {
+            whose: Whose::Other,
+            command: Command::On,
+        },
+        Verb::Wont => Told {
+            whose: Whose::Other,
+            command: Command::Off,
+        },
+        Verb::Do => Told {
+            whose: Whose::Ours,
+            command: Command::On,
+        },
+        Verb::Dont => Told {
+            whose: Whose::Ours,
+            command: Command::Off,
+        },
+    }
+}
+
+// The command that says on or off of a side.
+pub fn verb_for(whose: Whose, command: Command) -> Verb
+    ensures { λ r. ⌜ r ≡ verbFor whose command ⌝ }
+{
+    match whose {
+        Whose::Ours => match command {
+            Command::On => Verb::Will,
+            Command::Off => Verb::Wont,
+        },
+        Whose::Other => match command {
+            Command::On => Verb::Do,
+            Command::Off => Verb::Dont,
+        },
+    }
+}
+
+// The event that carries what a side sends.
+pub fn event_for(whose: Whose, option: u8, sends: Sending) -> Outgoing
+    ensures { λ r. ⌜ r ≡ eventFor whose option sends ⌝ }
+{
+    match sends {
+        Sending::Nothing => Outgoing::Nothing,
+        Sending::Command(command) => {
+            Outgoing::Event(Kind::Negotiation(verb_for(whose, command), option))
+        }
+    }
+}

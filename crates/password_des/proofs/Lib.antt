@@ -1,0 +1,4 @@
+pub mod Padding
+pub mod Identifier
+pub mod Tokens
+pub mod Worked

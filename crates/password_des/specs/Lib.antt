@@ -1,0 +1,3 @@
+pub mod Des
+pub mod Answer
+pub mod Worked

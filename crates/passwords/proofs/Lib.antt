@@ -1,8 +1,0 @@
-pub mod Padded
-pub mod Identifier
-pub mod Tokens
-pub mod Comparison
-pub mod Texts
-pub mod Unicode
-pub mod Messages
-pub mod Worked

@@ -1,4 +1,0 @@
-pub mod Des
-pub mod Sha
-pub mod Answer
-pub mod Worked

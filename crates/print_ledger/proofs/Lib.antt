@@ -1,0 +1,3 @@
+pub mod Completing
+pub mod HeardBack
+pub mod OnTheLine

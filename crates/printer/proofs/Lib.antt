@@ -1,4 +1,0 @@
-pub mod Masks
-pub mod Completing
-pub mod HeardBack
-pub mod Worked

@@ -1,4 +1,0 @@
-pub mod Frame
-pub mod Ledger
-pub mod History
-pub mod Theorems

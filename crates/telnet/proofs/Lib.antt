@@ -1,0 +1,5 @@
+pub mod Stretch
+pub mod Unroll
+pub mod RoundTrip
+pub mod Between
+pub mod Lines

@@ -1,0 +1,26 @@
+// Telnet: the events and records of a line. This crate has what is right, and no function: start with `specs/Event.antt`, `specs/Write.antt` and
+// `specs/Read.antt`. The code is in `telnet_reader`, `telnet_writer` and `telnet_listing`.
+
+// The option commands.
+pub enum Verb {
+    Will,
+    Wont,
+    Do,
+    Dont,
+}
+
+// What a byte behind a 255 begins: nothing that Telnet has, a subnegotiation, an option command, or a simple command that it is itself.
+pub enum Lead {
+    Faulty,
+    Opens,
+    Negotiates(Verb),
+    Simple,
+}
+
+// An event without the bytes that it carries, which stand in a buffer of their own.
+pub enum Kind {
+    Data,
+    Command(u8),
+    Negotiation(Verb, u8),
+    Subnegotiation(u8),
+}

@@ -1,0 +1,4 @@
+pub mod Put
+pub mod Placing
+pub mod Lines
+pub mod Sample

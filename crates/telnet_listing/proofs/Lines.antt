@@ -1,0 +1,68 @@
+-- The lines from a place on, turn by turn: the line of what stands there, and then those from the next place on, if there is one.
+-- Assumes nothing.
+use mathlib.Core.Path.{_≡_, refl, sym, ap, _∙_, subst}
+use mathlib.Core.List.{List, [], _++_, append-nil}
+use Prim.Native.Nat.{ℕ, _+_, _≤_, _<_}
+use native.Mathlib.Omega.{arith}
+use lib.ListN.{length, drop, length-append, length-drop}
+use lib.Seq.{drop-drop}
+use Rattle.telnet_reader.specs.declared.Answer.{Answer}
+use Rattle.telnet_reader.specs.declared.Answer.the-variants.{End, Found, Refused}
+use Rattle.telnet.specs.Read.{Front, noEvent, found, refused, eventOf}
+use Rattle.telnet.specs.Whole.{Reading, reading}
+use Rattle.telnet_reader.specs.Promise.{answered, lookAt}
+use Rattle.telnet.specs.Theorems.{readOn}
+use Rattle.telnet.proofs.Unroll.{unrolled}
+use Rattle.telnet_reader.proofs.Places.{looked}
+use Rattle.telnet_reader.proofs.Carried.{Carries, none, not-found, carries, event-carries}
+use Rattle.telnet_listing.specs.Listing.{answerText, line, linesFrom, listing}
+
+abbrev linesOf : ℕ → Reading → List ℕ
+linesOf i r = linesFrom i (r .events) (r .ending)
+
+-- the lines from a place on
+unfoldable pub linesAt : List ℕ → ℕ → List ℕ
+linesAt s i = linesOf i (reading (drop i s))
+
+pub lines-all : (s : List ℕ) → linesAt s 0 ≡ listing s
+unfolding linesAt listing
+lines-all s = refl
+
+-- what is left to list behind what stands at a place
+abbrev pub behind : List ℕ → Answer → List ℕ
+behind s End = []
+behind s (Found k n next) = linesAt s next
+behind s (Refused n) = []
+
+module _ (s : List ℕ) (i : ℕ) (h : i ≤ length s) where
+  -- a turn, where the reader answers r, which is q
+  pub turn : {r q : Answer} → r ≡ lookAt s i → r ≡ q → linesAt s i ≡ line i (answerText r) ++ behind s q
+  unfolding linesAt linesFrom readOn answered answerText
+  turn {r} e g =
+      ap (linesOf i) (unrolled (drop i s)) ∙ go (eventOf (drop i s))
+      ∙ ap (λ a. line i (answerText a) ++ behind s a) (sym (e ∙ looked s i h))
+      ∙ ap (λ a. line i (answerText r) ++ behind s a) g
+    where
+      go : (f : Front) → linesOf i (readOn (drop i s) f) ≡ line i (answerText (answered i f)) ++ behind s (answered i f)
+      go noEvent = sym (append-nil _)
+      go (refused n) = sym (append-nil _)
+      go (found e) = rw drop-drop
+
+  pub turn-length : {r q : Answer} → r ≡ lookAt s i → r ≡ q
+      → length (linesAt s i) ≡ length (line i (answerText r)) + length (behind s q)
+  turn-length {r} {q} e g = ap length (turn e g) ∙ length-append (line i (answerText r)) (behind s q)
+
+  -- the next place is further on, and not past the end
+  abbrev pub Further : Answer → Type 0
+  Further End = Unit {0}
+  Further (Found k n next) = (i < next) × (next ≤ length s)
+  Further (Refused n) = Unit {0}
+
+  pub further : {r q : Answer} → r ≡ lookAt s i → r ≡ q → Further q
+  unfolding answered
+  further e g = subst Further (sym (looked s i h) ∙ sym e ∙ g) (go (eventOf (drop i s)) (event-carries (drop i s)))
+    where
+      go : (f : Front) → Carries (drop i s) f → Further (answered i f)
+      go _ none = tt
+      go _ not-found = tt
+      go _ (carries p) = (omega (arith, p .positive), omega (arith, p .within, length-drop i s))

@@ -1,0 +1,55 @@
+-- `telnet_listing::list` meets its contract. Assumes nothing.
+use mathlib.Core.Path.{sym, ap, ap₂, _∙_}
+use lib.ListN.{length}
+use borrow.Author.Needs.{needs}
+use Rattle.octets.specs.Lent.{outcome}
+use Rattle.telnet_listing.specs.declared.Listed.the-variants.{Wrote, Refused}
+use Rattle.telnet_listing.specs.Listing.{listing}
+use Rattle.telnet_listing.proofs.Placing.{given-fits, given-refused, wrote-fits, refused-past}
+use Rattle.telnet_listing.proofs.list.Statement.{statement}
+use Rattle.telnet_listing.proofs.list.Tie as tie
+
+listing-length-requires : tie.Need-listing-length-requires
+listing-length-requires c κs = search needs
+
+enum-known-n : tie.Need-enum-known-n
+enum-known-n c = search needs
+
+put-lines-requires : tie.Need-put-lines-requires
+put-lines-requires c κs =
+    let a = c .before .before .before .before .before .before .before .args in
+    let n = c .before .before in
+    wrote-fits (listing (a .s .now)) (length (a .out .now)) (sym (n .before .before .listing-length .ensures) ∙ n .n .given .1) .0
+
+same-length : tie.Need-same-length
+same-length c = search needs
+
+returns : tie.Need-returns
+returns c =
+    let a = c .before .before .before .before .before .before .before .before .before .before .args in
+    let x = listing (a .s .now) in
+    let n = c .before .before .before .before .before in
+    let w = wrote-fits x (length (a .out .now)) (sym (n .before .before .listing-length .ensures) ∙ n .n .given .1) in
+    ap₂ outcome (ap Wrote (w .1)) (c .before .before .put-lines .ensures) ∙ sym (given-fits x (a .out .now) (w .0))
+
+enum-known-n-2 : tie.Need-enum-known-n-2
+enum-known-n-2 c = search needs
+
+returns-2 : tie.Need-returns-2
+returns-2 c =
+    let a = c .before .before .before .before .before .before .args in
+    let x = listing (a .s .now) in
+    let r = refused-past x (length (a .out .now)) (sym (c .before .before .before .listing-length .ensures) ∙ c .before .n2 .given .1) in
+    ap (λ n. outcome (Refused n) (a .out .now)) (r .1) ∙ sym (given-refused x (a .out .now) (r .0))
+
+pub list-spec : {M : Type 1} → statement M
+list-spec =
+    tie.close
+    (tie.spec
+    listing-length-requires
+    enum-known-n
+    put-lines-requires
+    same-length
+    returns
+    enum-known-n-2
+    returns-2)

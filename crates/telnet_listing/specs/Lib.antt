@@ -1,0 +1,4 @@
+pub mod Listing
+pub mod near
+pub mod Promise
+pub mod Sample

@@ -1,0 +1,4 @@
+pub mod Widths
+pub mod Places
+pub mod Carried
+pub mod Gathering

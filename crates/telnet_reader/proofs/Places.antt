@@ -1,0 +1,143 @@
+-- What stands at a place, by the bytes there: the laws that each way out of the reader cites. Assumes nothing.
+use mathlib.Core.Path.{_≡_, refl, sym, ap, _∙_}
+use mathlib.Core.Bool.{Bool, true, false}
+use mathlib.Core.List.{List, [], _∷_}
+use Prim.Native.Nat.{ℕ, suc, _+_, _≤_, _<_}
+use native.Mathlib.Nat.{add-assoc}
+use native.Mathlib.Omega.{arith}
+use lib.ListN.{length, drop, getD, length-append, length-drop, drop-of-length-le}
+use lib.Seq.{drop-drop}
+use lib.Dec.{eqb}
+use borrow.Author.Tests.{eq-eqb, ne-eqb, lt-ltb, le-ltb}
+use Rattle.octets.specs.Choice.{if_then_else_}
+use Rattle.refusal.specs.Refusal.{cutShort, payloadTooLong, undoubled as undoubledIac, pastTheEnd}
+use Rattle.telnet.specs.declared.Verb.{Verb}
+use Rattle.telnet.specs.declared.Lead.{Lead}
+use Rattle.telnet_reader.specs.declared.Answer.the-variants.{End, Found, Refused}
+use Rattle.telnet.specs.declared.Kind.the-variants.{Data, Negotiation, Subnegotiation}
+use Rattle.telnet.specs.Event.{subnegotiation, lead, iac, se, payloadLimit}
+use Rattle.telnet.specs.Write.{doubled, written}
+use Rattle.telnet.specs.Read.{undoubled, afterVerb, afterSb, closed, afterIac, afterLead, eventOf, runOr, Front}
+use Rattle.telnet_reader.specs.near.Scan.{count, span}
+use Rattle.telnet_reader.specs.Promise.{answered, lookAt}
+use Rattle.telnet.proofs.Stretch.{stretch}
+use Rattle.octets.proofs.Front.{empty, at-front, pair-front}
+
+-- doubling takes no byte away
+pub doubled-longer : (d : List ℕ) → length d ≤ length (doubled d)
+unfolding doubled
+doubled-longer [] = omega arith
+doubled-longer (b ∷ d) = go (eqb b iac) (doubled-longer d)
+  where
+    go : (t : Bool) → length d ≤ length (doubled d) → suc (length d) ≤ length (if t then b ∷ b ∷ doubled d else b ∷ doubled d)
+    go true h = omega arith
+    go false h = omega arith
+
+-- a stretch lies within its bytes
+pub span-within : (bs : List ℕ) → span bs ≤ length bs
+unfolding span
+span-within bs = omega (arith, simp length-append at (ap length (stretch bs .whole)))
+
+-- behind a stretch at place i
+pub behind : (s : List ℕ) (i : ℕ) → drop (length (doubled (undoubled (drop i s)))) (drop i s) ≡ drop (i + span (drop i s)) s
+unfolding span
+behind s i = drop-drop (length (doubled (undoubled (drop i s)))) i s
+
+module _ (s : List ℕ) (at : ℕ) where
+  pub verb-cut : (v : Verb) → length s ≤ at + 2 → answered at (afterVerb v (drop (at + 2) s)) ≡ Refused cutShort
+  unfolding answered afterVerb
+  verb-cut v h = rw (drop-of-length-le s {i = at + 2} h)
+
+  pub verb-found : (v : Verb) → at + 2 < length s
+      → answered at (afterVerb v (drop (at + 2) s)) ≡ Found (Negotiation v (getD s (at + 2) 0)) 0 (at + 3)
+  unfolding answered afterVerb written
+  verb-found v h = rw (at-front s (at + 2) h)
+
+  pub sb-cut : length s ≤ at + 2 → answered at (afterSb (drop (at + 2) s)) ≡ Refused cutShort
+  unfolding answered afterSb
+  sb-cut h = rw (drop-of-length-le s {i = at + 2} h)
+
+  -- the place behind the payload
+  abbrev tail : ℕ
+  tail = at + 3 + span (drop (at + 3) s)
+
+  -- an option byte stands there
+  option-front : at + 2 < length s → drop (at + 2) s ≡ getD s (at + 2) 0 ∷ drop (at + 3) s
+  option-front h = at-front s (at + 2) h ∙ ap (λ k. getD s (at + 2) 0 ∷ drop k s) (add-assoc at 2 1)
+
+  -- with a payload within the limit, what closes it decides
+  opened-closed : at + 2 < length s → count (drop (at + 3) s) ≤ payloadLimit
+      → afterSb (drop (at + 2) s) ≡ closed (getD s (at + 2) 0) (undoubled (drop (at + 3) s)) (drop tail s)
+  unfolding afterSb count
+  opened-closed h k = rw (option-front h, le-ltb payloadLimit (length (undoubled (drop (at + 3) s))) k, behind s (at + 3))
+
+  pub sb-long : at + 2 < length s → payloadLimit < count (drop (at + 3) s) → answered at (afterSb (drop (at + 2) s)) ≡ Refused payloadTooLong
+  unfolding answered afterSb count
+  sb-long h k = rw (option-front h, lt-ltb payloadLimit (length (undoubled (drop (at + 3) s))) k)
+
+  module _ (h : at + 2 < length s) (k : count (drop (at + 3) s) ≤ payloadLimit) where
+    pub sb-short : length s < tail + 2 → answered at (afterSb (drop (at + 2) s)) ≡ Refused cutShort
+    unfolding answered closed
+    sb-short g = ap (answered at) (opened-closed h k) ∙ short _ _ (drop tail s) (omega (arith, length-drop tail s))
+      where
+        short : (o : ℕ) (p rest : List ℕ) → length rest < 2 → answered at (closed o p rest) ≡ Refused cutShort
+        short o p [] l = refl
+        short o p (x ∷ []) l = refl
+        short o p (x ∷ y ∷ rest) l = absurd (omega arith)
+
+    pub sb-undoubled : tail + 1 < length s → (getD s (tail + 1) 0 ≡ se → ⊥) → answered at (afterSb (drop (at + 2) s)) ≡ Refused undoubledIac
+    unfolding answered closed
+    sb-undoubled g n = rw (opened-closed h k, pair-front s tail g, ne-eqb (getD s (tail + 1) 0) se n)
+
+    pub sb-found : tail + 1 < length s → getD s (tail + 1) 0 ≡ se
+        → answered at (afterSb (drop (at + 2) s)) ≡ Found (Subnegotiation (getD s (at + 2) 0)) (count (drop (at + 3) s)) (tail + 2)
+    unfolding answered closed count span written
+    sb-found g e =
+        let l : at + length (written (subnegotiation (getD s (at + 2) 0) (undoubled (drop (at + 3) s)))) ≡ tail + 2 = simp length-append (omega arith) in
+        rw (opened-closed h k, pair-front s tail g, eq-eqb (getD s (tail + 1) 0) se e) (ap (Found (Subnegotiation (getD s (at + 2) 0)) (count (drop (at + 3) s))) l)
+
+  -- behind a 255 at the place
+  pub iac-cut : length s ≤ at + 1 → answered at (afterIac (drop (at + 1) s)) ≡ Refused cutShort
+  unfolding answered afterIac
+  iac-cut h = rw (drop-of-length-le s {i = at + 1} h)
+
+  pub iac-lead : (l : Lead) → at + 1 < length s → lead (getD s (at + 1) 0) ≡ l
+      → answered at (afterIac (drop (at + 1) s)) ≡ answered at (afterLead l (getD s (at + 1) 0) (drop (at + 2) s))
+  unfolding afterIac
+  iac-lead l h e =
+      rw (at-front s (at + 1) h, e) (ap (λ k. answered at (afterLead l (getD s (at + 1) 0) (drop k s))) (add-assoc at 1 1))
+
+  -- the event at a place
+  pub look-past : length s < at → lookAt s at ≡ Refused pastTheEnd
+  unfolding lookAt
+  look-past h = rw (lt-ltb (length s) at h)
+
+  pub looked : at ≤ length s → lookAt s at ≡ answered at (eventOf (drop at s))
+  unfolding lookAt
+  looked h = rw (le-ltb (length s) at h)
+
+  pub look-run : at ≤ length s → 0 < count (drop at s) → lookAt s at ≡ Found Data (count (drop at s)) (at + span (drop at s))
+  unfolding answered eventOf runOr count span written undoubled
+  look-run h k = looked h ∙ run-at (drop at s) k
+    where
+      runs : (d : List ℕ) (other : Front) → 0 < length d → answered at (runOr d other) ≡ Found Data (length d) (at + length (doubled d))
+      runs [] other l = absurd (omega arith)
+      runs (x ∷ d) other l = refl
+
+      run-at : (bs : List ℕ) → 0 < count bs → answered at (eventOf bs) ≡ Found Data (count bs) (at + span bs)
+      run-at [] l = absurd (omega arith)
+      run-at (b ∷ bs) l = runs (undoubled (b ∷ bs)) (afterIac bs) l
+
+  pub look-end : at ≡ length s → lookAt s at ≡ End
+  unfolding answered eventOf
+  look-end h =
+      let l : at ≤ length s = omega arith in
+      let g : length s ≤ at = omega arith in
+      looked l ∙ rw (drop-of-length-le s {i = at} g)
+
+  pub look-command : at < length s → count (drop at s) ≡ 0 → lookAt s at ≡ answered at (afterIac (drop (at + 1) s))
+  unfolding eventOf count runOr
+  look-command h k =
+      let l : at ≤ length s = omega arith in
+      let none : undoubled (getD s at 0 ∷ drop (at + 1) s) ≡ [] = ap undoubled (sym (at-front s at h)) ∙ empty (undoubled (drop at s)) k in
+      looked l ∙ rw (at-front s at h, none)
