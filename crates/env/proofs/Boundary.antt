@@ -3,8 +3,7 @@ use mathlib.Core.Path.{refl}
 use Rattle.env.specs.Variable.{isFirst, is, among, repeated}
 use Rattle.env.specs.Fields.{joins, stands, escapes, startsName, startsValue, rowOf}
 use Rattle.env.specs.Read.{addVariable, limited, whole, named, names, expectNoText, variablesOf, distinct, begun, readingOf}
-use Rattle.env.specs.Worked.{AllRead}
-use Rattle.env.specs.Boundaries.{several, severalThen, boundaries}
+use Rattle.env.specs.Boundaries.{AllRead, several, severalThen, boundaries}
 use Rattle.octets.specs.Same.{same}
 
 pub boundaries-read : AllRead boundaries

@@ -4,5 +4,4 @@ pub mod Holding
 pub mod Repeats
 pub mod Sound
 pub mod ReadingBack
-pub mod Worked
 pub mod Boundary

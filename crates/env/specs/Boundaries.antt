@@ -1,11 +1,23 @@
 -- Inputs at the boundaries between refusals, each with its reading: where two faults stand in one payload, where a name ends at once, and at the
 -- 64th and 65th variable. `proofs/Boundary.antt` proves them, as one theorem over the list.
+use mathlib.Core.Path.{_≡_}
 use mathlib.Core.List.{List, [], _∷_, _++_}
 use Prim.Native.Nat.{ℕ, zero, suc, _+_}
 use Rattle.env.specs.Variable.{Variable, variable, IS, INFO, VAR, USERVAR}
-use Rattle.env.specs.Read.{says, notRead}
-use Rattle.env.specs.Worked.{Case, case}
+use Rattle.env.specs.Read.{Reading, says, notRead, readingOf}
 use Rattle.refusal.specs.Refusal.{notIsOrInfo, noVariable, badEscape, valueInValue, tooManyVariables, repeatedVariable}
+
+pub record Case : Type 0 where
+  pub payload : List ℕ
+  pub reading : Reading
+
+abbrev pub case : List ℕ → Reading → Case
+case p r = record { payload = p; reading = r }
+
+-- every case of a list is read as it says
+abbrev pub AllRead : List Case → Type 0
+AllRead [] = Unit {0}
+AllRead (c ∷ cs) = (readingOf (c .payload) ≡ c .reading) × AllRead cs
 
 -- n variables without values, and their names: the bytes 20X, 21X and so on
 unfoldable pub several : ℕ → List Variable
@@ -17,8 +29,8 @@ unfoldable pub severalThen : ℕ → List ℕ → List ℕ
 severalThen zero rest = rest
 severalThen (suc n) rest = severalThen n (VAR ∷ (0x20 + n) ∷ rest)
 
-abbrev pub payloadOf : ℕ → List ℕ → List ℕ
-payloadOf n rest = IS ∷ severalThen n rest
+abbrev pub afterSeveral : ℕ → List ℕ → List ℕ
+afterSeveral n rest = IS ∷ severalThen n rest
 
 abbrev A : List ℕ
 A = 0x41 ∷ []
@@ -52,11 +64,11 @@ boundaries =
     ∷ case (0 ∷ 0 ∷ 2 ∷ 1 ∷ 0 ∷ 2 ∷ 1 ∷ []) (notRead repeatedVariable)
     ∷ case (0 ∷ 0 ∷ 0x41 ∷ 0 ∷ 0x41 ∷ 1 ∷ 2 ∷ []) (notRead badEscape)
     -- "64 variables are read; a 65th gives 24", at its first byte
-    ∷ case (payloadOf 64 []) (says IS (several 64))
-    ∷ case (payloadOf 64 (0 ∷ [])) (notRead tooManyVariables)
-    ∷ case (payloadOf 64 (0 ∷ 2 ∷ 5 ∷ [])) (notRead tooManyVariables)
+    ∷ case (afterSeveral 64 []) (says IS (several 64))
+    ∷ case (afterSeveral 64 (0 ∷ [])) (notRead tooManyVariables)
+    ∷ case (afterSeveral 64 (0 ∷ 2 ∷ 5 ∷ [])) (notRead tooManyVariables)
     -- a fault of the 64th comes before the 65th
-    ∷ case (payloadOf 64 (1 ∷ 0x41 ∷ 1 ∷ [])) (notRead valueInValue)
-    ∷ case (payloadOf 64 (2 ∷ [])) (notRead badEscape)
-    ∷ case (payloadOf 63 (0 ∷ 0 ∷ 0x7A ∷ [])) (notRead noVariable)
+    ∷ case (afterSeveral 64 (1 ∷ 0x41 ∷ 1 ∷ [])) (notRead valueInValue)
+    ∷ case (afterSeveral 64 (2 ∷ [])) (notRead badEscape)
+    ∷ case (afterSeveral 63 (0 ∷ 0 ∷ 0x7A ∷ [])) (notRead noVariable)
     ∷ []

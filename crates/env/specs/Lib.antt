@@ -4,5 +4,4 @@ pub mod Read
 pub mod Write
 pub mod Numbers
 pub mod Theorems
-pub mod Worked
 pub mod Boundaries

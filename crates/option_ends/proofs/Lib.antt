@@ -3,4 +3,3 @@ pub mod Course
 pub mod Agreement
 pub mod Turns
 pub mod Whole
-pub mod Worked

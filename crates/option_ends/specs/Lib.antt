@@ -2,4 +2,3 @@ pub mod Ends
 pub mod Agreement
 pub mod Replay
 pub mod near
-pub mod Worked

@@ -1,4 +1,3 @@
 pub mod Padding
 pub mod Identifier
 pub mod Tokens
-pub mod Worked

@@ -1,3 +1,2 @@
 pub mod Des
 pub mod Answer
-pub mod Worked

@@ -1,14 +1,9 @@
--- Frames at the limits: ten bytes with LL 04 and 05, by computation, and more than 65,535 bytes. Assumes nothing.
-use mathlib.Core.Path.{refl}
+-- A frame of more than 65,535 bytes. Assumes nothing.
 use native.Mathlib.Omega.{arith}
 use lib.ListN.{length}
 use borrow.Author.Tests.{le-ltb, ne-eqb}
-use Rattle.print_frame.specs.Frame.{structureLength, goes, isFlow, directionOf, isReserved, isOperation, operationOf, headerOf, frameOf}
-use Rattle.print_frame.specs.Theorems.{TooLongToSay, HeaderOfTenBytes}
-
-pub header-of-ten-bytes : HeaderOfTenBytes
-unfolding goes isFlow directionOf isReserved isOperation operationOf headerOf frameOf
-header-of-ten-bytes = record { four = refl; five = refl }
+use Rattle.print_frame.specs.Frame.{structureLength, frameOf}
+use Rattle.print_frame.specs.Theorems.{TooLongToSay}
 
 pub too-long-to-say : TooLongToSay
 unfolding frameOf

@@ -2,4 +2,3 @@ pub mod Rounds
 pub mod Schedule
 pub mod Chain
 pub mod Last
-pub mod Worked

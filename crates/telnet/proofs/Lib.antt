@@ -2,4 +2,3 @@ pub mod Stretch
 pub mod Unroll
 pub mod RoundTrip
 pub mod Between
-pub mod Lines

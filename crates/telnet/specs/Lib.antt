@@ -4,4 +4,3 @@ pub mod Read
 pub mod Whole
 pub mod Record
 pub mod Theorems
-pub mod Worked

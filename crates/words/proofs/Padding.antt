@@ -9,7 +9,7 @@ use native.Mathlib.Omega.{arith}
 use lib.Arith.{digits-mod}
 use lib.ListN.{length, length-append, length-replicate}
 use Rattle.words.specs.Blocks.{cut}
-use Rattle.words.specs.Padding.{zeroBits, Smallest, padding, padded}
+use Rattle.words.specs.Padding.{zeroBits, FewestZeroBits, padding, padded}
 use Rattle.words.proofs.BigEndian.{length-bytes}
 use Rattle.words.proofs.Blocks.{length-cut}
 
@@ -37,8 +37,8 @@ zeros-least B L ℓ g j e =
     let more : p * B < s * B = omega arith in
     omega (arith, mul-le-mul-right {m = suc p} {n = s} B (lt-of-mul-lt-mul-right B more))
 
-pub smallest : (B L ℓ : ℕ) → 0 < L → L ≤ B → Smallest B L ℓ (zeroBits B L ℓ)
-smallest B L ℓ h g = record { solves = zeros-solve B L ℓ h g; least = zeros-least B L ℓ g }
+pub fewest-zero-bits : FewestZeroBits
+fewest-zero-bits B L ℓ h g = record { solves = zeros-solve B L ℓ h g; least = zeros-least B L ℓ g }
 
 -- for blocks of b bytes and a length of f bytes, behind a message of n bytes
 module _ (b f : ℕ) (h : 0 < b) where

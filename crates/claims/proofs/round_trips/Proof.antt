@@ -1,0 +1,27 @@
+-- `claims::round_trips` promises what `telnet`, `env`, `env_list` and `print_ledger` prove. Assumes nothing.
+use Rattle.telnet.proofs.RoundTrip.{reads-back, writes-back}
+use Rattle.telnet.proofs.Unroll.{unrolled}
+use Rattle.telnet.proofs.Between.{record-is-all-data, record-reads-back}
+use Rattle.print_ledger.proofs.OnTheLine.{print-complete-reads-back}
+use Rattle.env.proofs.ReadingBack.{reads-back as variables-read-back, reads-the-same}
+use Rattle.env.proofs.Holding.{holds-again}
+use Rattle.env_list.proofs.Meaning.{lists-the-variables}
+use Rattle.claims.proofs.round_trips.Statement.{statement}
+use Rattle.claims.proofs.round_trips.Tie as tie
+
+returns : tie.Need-returns
+returns c = record {
+  eventsReadBack = reads-back;
+  bytesWrittenBack = writes-back;
+  oneEventAfterAnother = unrolled;
+  recordIsAllData = record-is-all-data;
+  recordReadsBack = record-reads-back;
+  printCompleteReadsBack = print-complete-reads-back;
+  variablesReadBack = variables-read-back;
+  variablesReadTheSame = reads-the-same;
+  variablesHeldAgain = holds-again;
+  listsTheVariables = lists-the-variables;
+}
+
+pub round-trips-spec : {M : Type 1} → statement M
+round-trips-spec = tie.close (tie.spec returns)

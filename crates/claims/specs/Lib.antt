@@ -1,0 +1,5 @@
+pub mod Demand3
+pub mod RoundTrips
+pub mod Ledger
+pub mod Worked
+pub mod Others

@@ -1,0 +1,28 @@
+-- What is written is read back, and what is read is written back (specification, "Framing" and "Environment strings").
+use Rattle.telnet.specs.Theorems as Telnet
+use Rattle.env.specs.Theorems as Env
+use Rattle.env_list.specs.Theorems.{ListsTheVariables}
+use Rattle.print_ledger.specs.Theorems.{PrintCompleteReadsBack}
+
+pub record RoundTrips : Type 0 where
+  -- "Over lists of writable events with no two runs adjacent, reading what was written gives the list;
+  pub eventsReadBack : Telnet.ReadsBack
+  -- writing what was read without refusal gives the bytes."
+  pub bytesWrittenBack : Telnet.WritesBack
+  -- "One call reads one event at a place and gives the next place": the reading of a whole stream is one such call after another.
+  pub oneEventAfterAnother : Telnet.Unrolled
+  -- "A record is all data between two end-of-record events; commands between don't break it."
+  pub recordIsAllData : Telnet.RecordIsAllData
+  -- Data written as a run and an end-of-record is read back as that record.
+  pub recordReadsBack : Telnet.RecordReadsBack
+  -- And so is the print complete record.
+  pub printCompleteReadsBack : PrintCompleteReadsBack
+  -- "The writer escapes 0 to 3 and always writes VALUE; reading it back gives the same first byte and the same kinds, names and values in order."
+  pub variablesReadBack : Env.ReadsBack
+  -- What was read, written again, reads the same.
+  pub variablesReadTheSame : Env.ReadsTheSame
+  -- "Names and values without their ESCs go, back to back, into a lent buffer; their places are set in a lent list of variable records": the two
+  -- hold the variables again,
+  pub variablesHeldAgain : Env.HoldsAgain
+  -- also where the records are a list of structs.
+  pub listsTheVariables : ListsTheVariables

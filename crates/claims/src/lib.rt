@@ -1,0 +1,32 @@
+// What is proved above single functions, held: each function here does nothing and promises theorems, so that the check of this crate needs the
+// proof of every one. What is claimed is said in `specs/`; start with `Demand3.antt`.
+ghost use Rattle.claims.specs.Demand3.{Demand3};
+ghost use Rattle.claims.specs.RoundTrips.{RoundTrips};
+ghost use Rattle.claims.specs.Ledger.{LedgerTotal};
+ghost use Rattle.claims.specs.Worked.{lines, AllHold};
+ghost use Rattle.claims.specs.Others.{Others};
+
+// The owner's demand 3.
+pub fn demand_3()
+    ensures { λ _. ⌜ Demand3 ⌝ }
+{}
+
+// What is written is read back.
+pub fn round_trips()
+    ensures { λ _. ⌜ RoundTrips ⌝ }
+{}
+
+// The total of the print ledger.
+pub fn ledger_total()
+    ensures { λ _. ⌜ LedgerTotal ⌝ }
+{}
+
+// The specification's worked lines that are marked P.
+pub fn worked_lines()
+    ensures { λ _. ⌜ AllHold lines ⌝ }
+{}
+
+// That the definitions mean what they are named after.
+pub fn others()
+    ensures { λ _. ⌜ Others ⌝ }
+{}
