@@ -6,7 +6,7 @@ use Prim.Native.Nat.{ℕ, zero, suc, _+_, _≤_, _<_}
 use native.Mathlib.Omega.{arith}
 use lib.ListN.{length, replicate}
 use borrow.Author.Tests.{le-ltb}
-use Rattle.refusal.specs.Refusal.{cutShort, payloadTooLong, badCommand, notIsOrInfo, badHeaderLength}
+use Rattle.refusal.specs.Refusal.{payloadTooLong, notIsOrInfo}
 use Rattle.names.specs.Name.{raisedByte}
 use Rattle.names.specs.Padding.{filled}
 use Rattle.names.specs.Ebcdic.{ebcdic}
@@ -18,30 +18,17 @@ use Rattle.env.specs.Write.{escaped, writtenVariable, writtenVariables, payload
 use Rattle.env.proofs.Rows.{escaped-nil, escaped-plain}
 use Rattle.env.proofs.Limits.{reading-long}
 use Rattle.env.proofs.ReadingBack.{reads-back}
-use Rattle.telnet.specs.Event.{run, subnegotiation, lead, payloadLimit}
+use Rattle.telnet.specs.Event.{lead, payloadLimit}
 use Rattle.telnet.specs.Write.{doubled}
-use Rattle.telnet.specs.Read.{undoubled, found, refused, closed, afterSb, afterLead, afterIac, runOr, eventOf}
+use Rattle.telnet.specs.Read.{undoubled, closed, afterSb, afterLead, afterIac, runOr, eventOf}
 use Rattle.option_rules.specs.declared.Side.{Side}
 use Rattle.option_rules.specs.Table.{Row, table}
 use Rattle.option_rules.proofs.Chosen.{rules-carried}
 use Rattle.option_ends.specs.Ends.{End, near, far, other, at, taken, callResult, sentBy, stepped, changed, move, after, countWhere}
 use Rattle.option_ends.specs.Ends.{isCommand, sends, same}
-use Rattle.print_frame.specs.declared.FrameAnswer.the-variants.{Refused}
 use Rattle.print_frame.specs.Frame.{goes, isFlow, directionOf, isReserved, isOperation, operationOf, headerOf, frameOf}
-use Rattle.claims.specs.Worked.{desKey, folds, rdrSeq, isWritten, isRead, stands, bothRequestOn, isFrame, Holds, AllHold, lines}
-use Rattle.claims.specs.Worked.{twoRequests, sendsAt, RestOn, lettersA, subnegotiationOf, tenBytes, printOfNothing}
-
-key-of-a : Holds (desKey (0x41 ∷ []) 0x282A2A2A2A2A2A2A)
-unfolding raisedByte filled ebcdic
-key-of-a = refl
-
-username12 : Holds (folds (0x55 ∷ 0x53 ∷ 0x45 ∷ 0x52 ∷ 0x4E ∷ 0x41 ∷ 0x4D ∷ 0x45 ∷ 0x31 ∷ 0x32 ∷ []) 0x2422C5991501D445)
-unfolding raisedByte filled ebcdic folded userID
-username12 = refl
-
-value-written : Holds (isWritten (1 ∷ 2 ∷ 3 ∷ []) (2 ∷ 1 ∷ 2 ∷ 2 ∷ 2 ∷ 3 ∷ []))
-unfolding escaped
-value-written = refl
+use Rattle.claims.specs.Worked.{isRead, bothRequestOn, Holds, AllHold, lines}
+use Rattle.claims.specs.Worked.{twoRequests, sendsAt, RestOn, lettersA}
 
 none-said : Holds (isRead (0 ∷ []) (says IS []))
 unfolding isFirst repeated rowOf names expectNoText variablesOf distinct begun readingOf
@@ -82,67 +69,16 @@ both-request-on : Holds bothRequestOn
 both-request-on option c x y a b =
     subst⁻¹ (λ (r : Side → Row). RestOn r (twoRequests x y a b)) (rules-carried option c) (computed x y a b)
 
--- what stands at the front, and frames of ten bytes
-cut-short : Holds (stands (0xFF ∷ []) (refused cutShort))
-unfolding eventOf runOr afterIac undoubled
-cut-short = refl
-
-bad-command : Holds (stands (0xFF ∷ 0xF0 ∷ []) (refused badCommand))
-unfolding eventOf runOr afterIac afterLead lead undoubled
-bad-command = refl
-
-one-byte : Holds (stands (0xFF ∷ 0xFF ∷ []) (found (run (255 ∷ []))))
-unfolding eventOf runOr undoubled
-one-byte = refl
-
-at-the-limit : Holds (stands (subnegotiationOf 1024) (found (subnegotiation 24 (replicate 1024 0x41))))
-unfolding eventOf runOr afterIac afterLead lead afterSb closed undoubled doubled
-at-the-limit = refl
-
-past-the-limit : Holds (stands (subnegotiationOf 1025) (refused payloadTooLong))
-unfolding eventOf runOr afterIac afterLead lead afterSb closed undoubled doubled
-past-the-limit = refl
-
-four : Holds (isFrame (tenBytes 0x04) printOfNothing)
-unfolding goes isFlow directionOf isReserved isOperation operationOf headerOf frameOf
-four = refl
-
-five : Holds (isFrame (tenBytes 0x05) (Refused badHeaderLength))
-unfolding goes isFlow directionOf isReserved isOperation operationOf headerOf frameOf
-five = refl
-
 pub all-hold : AllHold lines
-all-hold = (
-  key-of-a,
-  (
-    username12,
-    (
-      refl,
-      (
-        value-written,
-        (
-          none-said,
-          (
-            nothing-said,
-            (
-              cut-short,
-              (
-                bad-command,
-                (
-                  one-byte,
-                  (
-                    at-the-limit,
-                    (
-                      past-the-limit,
-                      (letters-read 1020 (omega arith), (letters-refused 1021 (omega arith), (both-request-on, (four, (five, tt))))),
-                    ),
-                  ),
-                ),
-              ),
-            ),
-          ),
-        ),
-      ),
-    ),
-  ),
-)
+unfolding raisedByte filled ebcdic folded userID escaped eventOf runOr afterIac afterLead lead afterSb closed undoubled doubled goes isFlow directionOf isReserved isOperation operationOf headerOf frameOf
+all-hold =
+    (refl,
+    (refl,
+    (refl,
+    (refl,
+    (none-said,
+    (nothing-said,
+    (refl,
+    (refl,
+    (refl,
+    (refl, (refl, (letters-read 1020 (omega arith), (letters-refused 1021 (omega arith), (both-request-on, (refl, (refl, tt))))))))))))))))

@@ -10,32 +10,33 @@ use Rattle.telnet.specs.Event.{payloadLimit}
 use Rattle.refusal.specs.Refusal.{payloadTooLong, notIsOrInfo, noVariable, badEscape, valueInValue, tooManyVariables, repeatedVariable}
 use Rattle.octets.specs.Choice.{if_then_else_}
 
--- variables in their order, or the first fault
+-- variables in their order, or the number of the first fault
 pub data Found : Type 0 where
   variables : List Variable → Found
   fault : ℕ → Found
 
--- a variable before those found behind it
+-- A variable with those found behind it. A fault behind it is the fault of all: it decides no number.
 unfoldable pub addVariable : Variable → Found → Found
 addVariable v (variables vs) = variables (v ∷ vs)
 addVariable v (fault n) = fault n
 
--- a variable that opens where there are k already
+-- A variable opens where there are k already. Decides 24, before anything of that variable is looked at.
 unfoldable pub limited : ℕ → Found → Found
 limited k found = if ltb k variableLimit then found else fault tooManyVariables
 
--- what is found with a text that has no bad ESC
+-- What is found with a name or a value that has no bad ESC. Decides 22.
 unfoldable pub whole : Text → (List ℕ → Found) → Found
 whole broken found = fault badEscape
 whole (text bs) found = found bs
 
--- what is found with a name: it is not empty
+-- What is found with a name, which is not empty. Decides 21 for a name, once it is known to be whole.
 unfoldable pub named : (List ℕ → Found) → List ℕ → Found
 named found [] = fault noVariable
 named found (b ∷ bs) = found (b ∷ bs)
 
--- the variables of fields, where there are k already: a name with its value, a name at the end, a name before the next one. A VALUE in the place
--- of a name is a fault with a number.
+-- The variables of fields, where there are k already. A VALUE where a name should stand is refused by the number given: 21 before the first variable
+-- and behind one without a value, 23 behind a value. Else a name stands there, and behind it its value, nothing more, or the next name; from left
+-- to right its 24, 22 and 21 come first, then its value's 22, then what is behind it.
 unfoldable pub names : ℕ → ℕ → List Field → Found
 names number k [] = variables []
 names number k (valueField t ∷ fs) = fault number
@@ -45,13 +46,13 @@ names number k (nameField kind t ∷ []) = limited k (whole t (named (λ name. a
 names number k (nameField kind t ∷ nameField kind₂ u ∷ fs) =
     limited k (whole t (named (λ name. addVariable (variable kind name []) (names noVariable (suc k) (nameField kind₂ u ∷ fs)))))
 
--- where a variable is expected no text stands
+-- Where a variable is expected no text stands, an ESC neither. Decides 21 for what stands before the first.
 unfoldable pub expectNoText : Text → Found → Found
 expectNoText broken found = fault noVariable
 expectNoText (text []) found = found
 expectNoText (text (b ∷ bs)) found = fault noVariable
 
--- the variables of a row: nothing stands before the first
+-- the variables of a row: no text before the first, then field after field
 unfoldable pub variablesOf : Row → Found
 variablesOf r = expectNoText (r .front) (names noVariable 0 (r .fields))
 
@@ -60,16 +61,16 @@ pub data Reading : Type 0 where
   says : ℕ → List Variable → Reading
   notRead : ℕ → Reading
 
--- no kind and name twice
+-- No kind and name twice. Decides 25, after every fault further left or right.
 unfoldable pub distinct : ℕ → Found → Reading
 distinct first (fault n) = notRead n
 distinct first (variables vs) = if repeated vs then notRead repeatedVariable else says first vs
 
--- a payload of at most 1,024 bytes
+-- A payload of at most 1,024 bytes. Decides 20 by its first byte; the rest is read as fields.
 unfoldable pub begun : List ℕ → Reading
 begun [] = notRead notIsOrInfo
 begun (b ∷ bs) = if isFirst b then distinct b (variablesOf (rowOf bs)) else notRead notIsOrInfo
 
--- a payload
+-- A payload. Decides 3 before anything is looked at.
 unfoldable pub readingOf : List ℕ → Reading
 readingOf p = if ltb payloadLimit (length p) then notRead payloadTooLong else begun p

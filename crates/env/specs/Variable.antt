@@ -49,7 +49,7 @@ variableLimit = 64
 unfoldable pub is : ℕ → List ℕ → Variable → Bool
 is kind name v = eqb kind (v .kind) && same name (v .name)
 
--- one of some variables is
+-- a variable of that kind and name is among some
 unfoldable pub among : ℕ → List ℕ → List Variable → Bool
 among kind name [] = false
 among kind name (v ∷ vs) = is kind name v || among kind name vs

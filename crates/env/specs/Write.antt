@@ -42,7 +42,7 @@ unfoldable pub nameless : List Variable → Bool
 nameless [] = false
 nameless (v ∷ vs) = isEmpty (v .name) || nameless vs
 
--- what is held against variables, each over the whole list before the next: 21, 24, 25, 3, or nothing
+-- why the writer refuses variables, each number over the whole list before the next: 21, 24, 25, 3; or that it does not
 pub data Objection : Type 0 where
   none : Objection
   against : ℕ → Objection

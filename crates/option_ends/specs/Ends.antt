@@ -51,7 +51,7 @@ at t far = t .atFar
 abbrev pub fresh : Ends
 fresh = ends Off [] Off []
 
--- What a call comes to: nothing, for a receipt with nothing on the way; a step by a request; or a step by a receipt, accepting or not, with
+-- The result of a call: nothing, for a receipt with nothing on the way; a step by a request; or a step by a receipt, accepting or not, with
 -- what is left on the way.
 pub data CallResult : Type 0 where
   nothing : CallResult
@@ -89,14 +89,14 @@ unfoldable pub after : (Side → Row) → Ends → List Call → Ends
 after rules t [] = t
 after rules t (k ∷ ks) = after rules (move rules t k) ks
 
--- how many of a list of calls came to such a thing
+-- how many calls of a list have a result that passes a test
 unfoldable pub countWhere : (End → CallResult → Bool) → (Side → Row) → Ends → List Call → ℕ
 countWhere such rules t [] = zero
 countWhere such rules t ((e does a) ∷ ks) =
     let n = countWhere such rules (move rules t (e does a)) ks in
     if such e (callResult rules (at t e) a) then suc n else n
 
--- The things that are counted.
+-- The tests of what is counted.
 
 unfoldable pub isCommand : Sending → Bool
 isCommand Nothing = false

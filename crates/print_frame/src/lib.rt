@@ -162,7 +162,7 @@ fn fields(frame: &[u8]) -> Frame
     }
 }
 
-// The pass-through specific header of a frame whose length is right, or the first of 43 to 45 that it deserves.
+// The pass-through specific header of a frame whose length is right, or the first of 43 to 45 that applies.
 fn read_header(frame: &[u8]) -> FrameAnswer
     requires { ⌜ (10 ≤ length (now frame)) × (structureLength (now frame) ≡ length (now frame)) ⌝ }
     ensures { λ r. ⌜ r ≡ headerOf (now (frame .entry)) ⌝ }
@@ -183,7 +183,7 @@ fn read_header(frame: &[u8]) -> FrameAnswer
     FrameAnswer::Read(fields(frame))
 }
 
-// The frame, or the first of 40 to 45 that it deserves. Nothing is copied: diagnostic bytes and data are given by their places.
+// The frame, or the first of 40 to 45 that applies. Nothing is copied: diagnostic bytes and data are given by their places.
 pub fn read_frame(frame: &[u8]) -> FrameAnswer
     ensures { λ r. ⌜ r ≡ frameOf (now (frame .entry)) ⌝ }
 {

@@ -45,7 +45,7 @@ unfoldable pub isWritten : Completion → Bool
 isWritten Written = true
 isWritten (NotWritten n) = false
 
--- a call is an accepted print where its frame is held
+-- a call is an accepted print where its receipt says that the frame is held
 unfoldable pub accepts : Ledger → Call → Bool
 accepts l (frame f) = isHeld (takeFrame l f .receipt)
 accepts l (completion out) = false
