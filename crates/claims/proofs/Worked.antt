@@ -71,14 +71,31 @@ both-request-on option c x y a b =
 
 pub all-hold : AllHold lines
 unfolding raisedByte filled ebcdic folded userID escaped eventOf runOr afterIac afterLead lead afterSb closed undoubled doubled goes isFlow directionOf isReserved isOperation operationOf headerOf frameOf
-all-hold =
-    (refl,
-    (refl,
-    (refl,
-    (refl,
-    (none-said,
-    (nothing-said,
-    (refl,
-    (refl,
-    (refl,
-    (refl, (refl, (letters-read 1020 (omega arith), (letters-refused 1021 (omega arith), (both-request-on, (refl, (refl, tt))))))))))))))))
+all-hold = (
+  refl,
+  (
+    refl,
+    (
+      refl,
+      (
+        refl,
+        (
+          none-said,
+          (
+            nothing-said,
+            (
+              refl,
+              (
+                refl,
+                (
+                  refl,
+                  (refl, (refl, (letters-read 1020 (omega arith), (letters-refused 1021 (omega arith), (both-request-on, (refl, (refl, tt))))))),
+                ),
+              ),
+            ),
+          ),
+        ),
+      ),
+    ),
+  ),
+)

@@ -1,34 +1,19 @@
--- Variables, their bytes and their records: what is recorded is held again (`Theorems.HoldsAgain`), and lists of variables and of records behind
--- one another and in part. Assumes nothing.
-use mathlib.Core.Path.{_≡_, refl, sym, ap, _∙_}
+-- Variables, their bytes and their records: what is recorded is held again (`Theorems.HoldsAgain`). Assumes nothing.
+use mathlib.Core.Path.{_≡_, refl, sym, _∙_}
 use mathlib.Core.List.{List, [], _∷_, _++_, append-assoc}
 use mathlib.Core.Bool.{_&&_}
-use Prim.Native.Nat.{ℕ, zero, suc, _+_, _*_, _/_, _≤_}
-use native.Mathlib.Nat.{add-zero}
+use Prim.Native.Nat.{ℕ, _+_, _*_, _≤_}
 use native.Mathlib.Omega.{arith}
 use lib.Dec.{T, le→leb}
-use lib.ListN.{length, take, drop, length-append, take-append-drop}
+use lib.ListN.{length, drop, length-append, take-append-drop}
 use lib.Seq.{take-append-seam, drop-append-seam, drop-drop}
 use mir.Facts.{and-yes, yes-and}
 use Rattle.octets.specs.Lent.{overwrite}
 use Rattle.octets.proofs.Overwrite.{take-overwrite, length-overwrite}
-use Rattle.env.specs.Variable.{Variable, variable, isKind}
+use Rattle.env.specs.Variable.{Variable, isKind}
 use Rattle.env.specs.Write.{kindsGood}
 use Rattle.env.specs.Numbers.{packed, recorded, part, held, fits, placed}
 use Rattle.env.specs.Theorems.{HoldsAgain}
-
-pub packed-append : (vs ws : List Variable) → packed (vs ++ ws) ≡ packed vs ++ packed ws
-unfolding packed
-packed-append [] ws = refl
-packed-append (v ∷ vs) ws = rw (packed-append vs ws, append-assoc, append-assoc)
-
-pub recorded-append : (at : ℕ) (vs ws : List Variable) → recorded at (vs ++ ws) ≡ recorded at vs ++ recorded (at + length (packed vs)) ws
-unfolding packed recorded
-recorded-append at [] ws = rw add-zero
-recorded-append at (v ∷ vs) ws =
-    let behind = at + length (v .name) + length (v .value) in
-    let e : at + length (packed (v ∷ vs)) ≡ behind + length (packed vs) = simp length-append (omega arith) in
-    rw (recorded-append behind vs ws, ← e)
 
 pub length-recorded : (at : ℕ) (vs : List Variable) → length (recorded at vs) ≡ 5 * length vs
 unfolding recorded
@@ -77,38 +62,3 @@ holds-again bytes at vs h =
     let after = overwrite bytes at (packed vs) in
     let fit : at + length (packed vs) ≤ length after = rw (length-overwrite bytes at (packed vs) h) h in
     (held-recorded after at vs (take-overwrite bytes at (packed vs) h), λ g. placed-recorded after at vs g fit)
-
--- whole records, so many, behind one another
-pub held-append : (bytes : List ℕ) (n : ℕ) (ns ms : List ℕ) → length ns ≡ 5 * n → held bytes (ns ++ ms) ≡ held bytes ns ++ held bytes ms
-unfolding held
-held-append bytes n [] ms h = refl
-held-append bytes n (k ∷ []) ms h = absurd (omega arith)
-held-append bytes n (k ∷ a ∷ []) ms h = absurd (omega arith)
-held-append bytes n (k ∷ a ∷ i ∷ []) ms h = absurd (omega arith)
-held-append bytes n (k ∷ a ∷ i ∷ b ∷ []) ms h = absurd (omega arith)
-held-append bytes zero (k ∷ a ∷ i ∷ b ∷ j ∷ ns) ms h = absurd (omega arith)
-held-append bytes (suc n) (k ∷ a ∷ i ∷ b ∷ j ∷ ns) ms h =
-    ap (λ l. variable k (part bytes a i) (part bytes b j) ∷ l) (held-append bytes n ns ms (omega arith))
-
-five-more : (n : ℕ) → 5 * suc n ≡ suc (suc (suc (suc (suc (5 * n)))))
-five-more n = omega arith
-
-pub held-take : (bytes : List ℕ) (n : ℕ) (ns : List ℕ) → held bytes (take (5 * n) ns) ≡ take n (held bytes ns)
-unfolding held
-held-take bytes zero ns = refl
-held-take bytes (suc n) [] = rw (five-more n)
-held-take bytes (suc n) (k ∷ []) = rw (five-more n)
-held-take bytes (suc n) (k ∷ a ∷ []) = rw (five-more n)
-held-take bytes (suc n) (k ∷ a ∷ i ∷ []) = rw (five-more n)
-held-take bytes (suc n) (k ∷ a ∷ i ∷ b ∷ []) = rw (five-more n)
-held-take bytes (suc n) (k ∷ a ∷ i ∷ b ∷ j ∷ ns) =
-    rw (five-more n) (ap (λ l. variable k (part bytes a i) (part bytes b j) ∷ l) (held-take bytes n ns))
-
-pub length-held : (bytes ns : List ℕ) → length (held bytes ns) ≡ length ns / 5
-unfolding held
-length-held bytes [] = refl
-length-held bytes (k ∷ []) = refl
-length-held bytes (k ∷ a ∷ []) = refl
-length-held bytes (k ∷ a ∷ i ∷ []) = refl
-length-held bytes (k ∷ a ∷ i ∷ b ∷ []) = refl
-length-held bytes (k ∷ a ∷ i ∷ b ∷ j ∷ ns) = omega (arith, length-held bytes ns)

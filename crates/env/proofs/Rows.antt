@@ -42,29 +42,15 @@ pub row-bad-escape : (b : ℕ) (bs : List ℕ) → 3 < b → rowOf (ESC ∷ b �
 unfolding rowOf escapes
 row-bad-escape b bs h = rw lt-leb
 
-pub row-cut-escape : rowOf (ESC ∷ []) ≡ row broken []
-unfolding rowOf
-row-cut-escape = refl
-
 -- bytes of the text at the front
 unfoldable pub prefixed : List ℕ → Row → Row
 prefixed [] r = r
 prefixed (b ∷ bs) r = stands b (prefixed bs r)
 
-pub prefixed-append : (bs cs : List ℕ) (r : Row) → prefixed (bs ++ cs) r ≡ prefixed bs (prefixed cs r)
-unfolding prefixed
-prefixed-append [] cs r = refl
-prefixed-append (b ∷ bs) cs r = ap (stands b) (prefixed-append bs cs r)
-
 pub prefixed-text : (bs cs : List ℕ) (fs : List Field) → prefixed bs (row (text cs) fs) ≡ row (text (bs ++ cs)) fs
 unfolding prefixed stands joins
 prefixed-text [] cs fs = refl
 prefixed-text (b ∷ bs) cs fs = rw (prefixed-text bs cs fs)
-
-pub prefixed-broken : (bs : List ℕ) (fs : List Field) → prefixed bs (row broken fs) ≡ row broken fs
-unfolding prefixed stands joins
-prefixed-broken [] fs = refl
-prefixed-broken (b ∷ bs) fs = rw (prefixed-broken bs fs)
 
 -- what `escaped` does
 pub escaped-nil : escaped [] ≡ []

@@ -17,9 +17,9 @@ use Rattle.env.proofs.Sound.{Reads, reads}
 use Rattle.env_records.specs.declared.VariableRecord.{VariableRecord}
 use Rattle.env_records.specs.Records.{recordAt}
 use Rattle.env_records.proofs.Steps.{record-of}
-use Rattle.env_reader.specs.declared.Answer.{Answer}
-use Rattle.env_reader.specs.declared.Answer.the-variants.{Read}
-use Rattle.env_reader.specs.Promise.{delivery, delivered, readInto}
+use Rattle.env_delivery.specs.declared.Answer.{Answer}
+use Rattle.env_delivery.specs.declared.Answer.the-variants.{Read}
+use Rattle.env_delivery.specs.Promise.{delivery, delivered, readInto}
 use Rattle.env_list.specs.Lists.{listing, firstRecords}
 use Rattle.env_list.specs.Reading.{listed, countOf, Numbered}
 use Rattle.env_list.proofs.Firsts.{begun}

@@ -15,7 +15,7 @@ use Rattle.env.proofs.Holding.{length-recorded, holds-again}
 use Rattle.env_records.specs.declared.VariableRecord.{VariableRecord}
 use Rattle.env_records.specs.Records.{variableOf}
 use Rattle.env_records.proofs.Held.{held-at, length-held}
-use Rattle.env_reader.specs.declared.Answer.the-variants.{Read, Refused}
+use Rattle.env_delivery.specs.declared.Answer.the-variants.{Read, Refused}
 use Rattle.env_list.specs.Lists.{firstRecords}
 use Rattle.env_list.specs.Reading.{listed}
 use Rattle.env_list.specs.Theorems.{ListsTheVariables}

@@ -6,8 +6,8 @@ use mathlib.Core.List.{List, _++_}
 use lib.Dec.{ltb}
 use lib.ListN.{length, drop}
 use Rattle.env_records.specs.declared.VariableRecord.{VariableRecord}
-use Rattle.env_reader.specs.declared.Answer.{Answer}
-use Rattle.env_reader.specs.declared.Answer.the-variants.{Read, Refused}
+use Rattle.env_delivery.specs.declared.Answer.{Answer}
+use Rattle.env_delivery.specs.declared.Answer.the-variants.{Read, Refused}
 use Rattle.env.specs.Read.{Reading, says, notRead, readingOf}
 use Rattle.env.specs.Numbers.{packed, recorded}
 use Rattle.refusal.specs.Refusal.{noRoom}

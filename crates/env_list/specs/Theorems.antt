@@ -6,7 +6,7 @@ use lib.ListN.{take}
 use Rattle.env.specs.Read.{readingOf, says}
 use Rattle.env_records.specs.declared.VariableRecord.{VariableRecord}
 use Rattle.env_records.specs.Records.{variableOf}
-use Rattle.env_reader.specs.declared.Answer.the-variants.{Read}
+use Rattle.env_delivery.specs.declared.Answer.the-variants.{Read}
 use Rattle.env_list.specs.Reading.{readRecords}
 
 -- Where a payload is read, it says the variables that the records have over the buffer: as many as the answer tells of, from the front of the list.

@@ -1,5 +1,5 @@
 // The lent list of variable records as a slice of structs.
-use env_reader::Answer;
+use env_delivery::Answer;
 use env_reader::read;
 use env_records::VariableRecord;
 use env_records::record_at;

@@ -1,3 +1,1 @@
-pub mod Scanning
-pub mod Turning
-pub mod Handing
+pub mod Reading

@@ -5,7 +5,6 @@ ghost use lib.Dec.{leb};
 ghost use lib.ListN.{length, drop};
 ghost use Rattle.env_records.specs.Records.{recordAt, numbersOf, variableOf, placeOf};
 ghost use Rattle.env.specs.Variable.{isFirst, isKind, is, among, repeated};
-ghost use Rattle.octets.specs.Same.{same};
 ghost use Rattle.env.specs.Numbers.{held};
 ghost use Rattle.octets.specs.Lent.{outcome};
 ghost use Rattle.octets.specs.Promise.{putAt};
@@ -110,23 +109,6 @@ fn part_end(length: usize, at: usize, n: usize) -> usize
     start + clipped(n, length - start)
 }
 
-// Whether two texts are the same; the bytes of texts of different lengths are not looked at.
-fn same_text(one: &[u8], other: &[u8]) -> bool
-    ensures { λ r. ⌜ r ≡ same (now (one .entry)) (now (other .entry)) ⌝ }
-{
-    if one.len() != other.len() {
-        return false;
-    }
-    let mut i = 0;
-    while i < one.len() {
-        if one[i] != other[i] {
-            return false;
-        }
-        i += 1;
-    }
-    true
-}
-
 // Whether a record is of a kind and name.
 fn is_of(bytes: &[u8], v: VariableRecord, kind: usize, name: &[u8]) -> bool
     ensures { λ r. ⌜ r ≡ is kind (now (name .entry)) (variableOf (now (bytes .entry)) v) ⌝ }
@@ -136,7 +118,7 @@ fn is_of(bytes: &[u8], v: VariableRecord, kind: usize, name: &[u8]) -> bool
     }
     let start = clipped(v.name_at, bytes.len());
     let end = part_end(bytes.len(), v.name_at, v.name_length);
-    same_text(name, &bytes[start..end])
+    octets::same(name, &bytes[start..end])
 }
 
 // Where the value stands of the first record of a kind and name.

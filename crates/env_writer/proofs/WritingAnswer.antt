@@ -1,20 +1,21 @@
 -- What `writeInto` answers, by the first of its tests that refuses. Assumes nothing.
-use mathlib.Core.Path.{_≡_}
+use mathlib.Core.Path.{_≡_, _∙_}
 use mathlib.Core.Bool.{true, false}
 use mathlib.Core.List.{List}
-use Prim.Native.Nat.{ℕ, _/_, _≤_, _<_}
+use Prim.Native.Nat.{ℕ, _+_, _/_, min, _≤_, _<_}
 use native.Mathlib.Omega.{arith}
-use lib.ListN.{length}
+use lib.ListN.{length, set, length-set}
 use borrow.Author.Tests.{lt-ltb, le-ltb}
 use Rattle.env_writer.specs.declared.Written.the-variants.{Wrote, Refused}
 use Rattle.env_writer.specs.Promise.{put, writeInto}
 use Rattle.env.specs.Variable.{isFirst, variableLimit, repeated}
-use Rattle.env.specs.Write.{none, against, nameless, objection, payloadOf}
+use Rattle.env.specs.Write.{none, against, nameless, objection, payloadOf, writtenVariables}
 use Rattle.env.specs.Numbers.{held, placed}
 use Rattle.env_records.proofs.Held.{length-held}
 use Rattle.telnet.specs.Event.{payloadLimit}
 use Rattle.refusal.specs.Refusal.{payloadTooLong, noRoom, notIsOrInfo, noVariable, tooManyVariables, repeatedVariable, badVariableRecord}
 use Rattle.octets.specs.Lent.{outcome, overwrite}
+use Rattle.octets.proofs.Overwrite.{overwrite-cons}
 
 module _ (first : ℕ) (bytes l out : List ℕ) where
   pub not-first : isFirst first ≡ false → outcome (Refused notIsOrInfo) out ≡ writeInto first bytes l out
@@ -44,28 +45,38 @@ module _ (first : ℕ) (bytes l out : List ℕ) (e : isFirst first ≡ true) (p 
   unfolding objection
   twice n m r = notRead (rw (n, le-ltb variableLimit (length (held bytes l)) (omega (arith, length-held bytes l)), r))
 
--- good records and nothing against their variables but, perhaps, the length of the payload
+-- good records and nothing against their variables but, perhaps, the length of the payload, which is measured up to one past the limit
 module _ (first : ℕ) (bytes l out : List ℕ) (e : isFirst first ≡ true) (p : placed bytes l ≡ true)
-    (n : nameless (held bytes l) ≡ false) (m : length l / 5 ≤ variableLimit) (r : repeated (held bytes l) ≡ false) where
+    (n : nameless (held bytes l) ≡ false) (m : length l / 5 ≤ variableLimit) (r : repeated (held bytes l) ≡ false)
+    (k : ℕ) (measured : k ≡ min (payloadLimit + 1) (1 + length (writtenVariables (held bytes l)))) where
   few : length (held bytes l) ≤ variableLimit
   few = omega (arith, length-held bytes l)
 
-  pub too-long : payloadLimit < length (payloadOf first (held bytes l)) → outcome (Refused payloadTooLong) out ≡ writeInto first bytes l out
+  pub too-long : payloadLimit < k → outcome (Refused payloadTooLong) out ≡ writeInto first bytes l out
   unfolding objection
-  too-long h = notRead first bytes l out e p
-      (rw (n, le-ltb variableLimit (length (held bytes l)) few, r, lt-ltb payloadLimit (length (payloadOf first (held bytes l))) h))
+  too-long h =
+      let long : payloadLimit < length (payloadOf first (held bytes l)) = omega arith in
+      notRead first bytes l out e p
+      (rw (n, le-ltb variableLimit (length (held bytes l)) few, r, lt-ltb payloadLimit (length (payloadOf first (held bytes l))) long))
 
-  fine : length (payloadOf first (held bytes l)) ≤ payloadLimit → objection first (held bytes l) ≡ none
+  fine : k ≤ payloadLimit → objection first (held bytes l) ≡ none
   unfolding objection
-  fine h = rw (n, le-ltb variableLimit (length (held bytes l)) few, r, le-ltb payloadLimit (length (payloadOf first (held bytes l))) h)
+  fine h =
+      let short : length (payloadOf first (held bytes l)) ≤ payloadLimit = omega arith in
+      rw (n, le-ltb variableLimit (length (held bytes l)) few, r, le-ltb payloadLimit (length (payloadOf first (held bytes l))) short)
 
-  pub no-space : length (payloadOf first (held bytes l)) ≤ payloadLimit → length out < length (payloadOf first (held bytes l))
-      → outcome (Refused noRoom) out ≡ writeInto first bytes l out
+  pub no-space : k ≤ payloadLimit → length out < k → outcome (Refused noRoom) out ≡ writeInto first bytes l out
   unfolding writeInto put
-  no-space h k = rw (e, p, fine h, lt-ltb (length out) (length (payloadOf first (held bytes l))) k)
+  no-space h g = rw (e, p, fine h, lt-ltb (length out) (length (payloadOf first (held bytes l))) (omega arith))
 
-  pub wrote : length (payloadOf first (held bytes l)) ≤ payloadLimit → length (payloadOf first (held bytes l)) ≤ length out
-      → {k : ℕ} → k ≡ length (payloadOf first (held bytes l)) → {o : List ℕ} → o ≡ overwrite out 0 (payloadOf first (held bytes l))
+  -- the variables fit behind the first byte
+  pub space : k ≤ payloadLimit → k ≤ length out → 1 + length (writtenVariables (held bytes l)) ≤ length (set out 0 first)
+  space h g = rw length-set (omega arith)
+
+  pub wrote : k ≤ payloadLimit → k ≤ length out → {o : List ℕ} → o ≡ overwrite (set out 0 first) 1 (writtenVariables (held bytes l))
       → outcome (Wrote k) o ≡ writeInto first bytes l out
   unfolding writeInto put
-  wrote h g same there = rw (e, p, fine h, le-ltb (length out) (length (payloadOf first (held bytes l))) g, same, there)
+  wrote h g there =
+      let same : k ≡ length (payloadOf first (held bytes l)) = omega arith in
+      let whole = there ∙ overwrite-cons out 0 first (writtenVariables (held bytes l)) (omega arith) in
+      rw (e, p, fine h, le-ltb (length out) (length (payloadOf first (held bytes l))) (omega arith), same, whole)

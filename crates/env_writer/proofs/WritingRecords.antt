@@ -8,12 +8,14 @@ use native.Mathlib.Omega.{arith}
 use lib.Dec.{eqb}
 use lib.ListN.{length, take, drop, length-append, length-take, length-drop}
 use borrow.Author.Tests.{eq-eqb, ne-eqb, eqb-true, leb-true}
-use Rattle.env.specs.Variable.{VAR, USERVAR, isKind}
+use Rattle.env.specs.Variable.{VAR, ESC, USERVAR, isKind}
 use Rattle.env.specs.Write.{escaped, writtenVariable, writtenVariables, isEmpty, nameless}
 use Rattle.env.specs.Numbers.{part, held, fits, placed}
 use Rattle.env_records.specs.declared.VariableRecord.{VariableRecord}
 use Rattle.env_records.specs.Records.{recordAt, numbersOf, variableOf}
 use Rattle.env_records.proofs.Steps.{held-step, held-end, placed-step}
+use Rattle.octets_marked.specs.Marked.{marked}
+use Rattle.env_writer.proofs.Writing.{escaped-marked}
 
 both : (a b : Bool) → (a && b) ≡ true → (a ≡ true) × (b ≡ true)
 both true b e = (refl, e)
@@ -41,7 +43,7 @@ within bytes r e =
     record { kind = kind-small (r .kind) (places .0); name = leb-true _ _ (texts .0); value = leb-true _ _ (texts .1) }
 
 -- a part of the buffer as it is lent, by its two ends, and what it takes
-pub lent-part : (bytes : List ℕ) (at n : ℕ) → take (at + n - at) (drop at bytes) ≡ part bytes at n
+lent-part : (bytes : List ℕ) (at n : ℕ) → take (at + n - at) (drop at bytes) ≡ part bytes at n
 unfolding part
 lent-part bytes at n =
     let e : at + n - at ≡ n = omega arith in
@@ -49,6 +51,9 @@ lent-part bytes at n =
 
 pub lent-size : (bytes : List ℕ) (at n : ℕ) → length (escaped (take (at + n - at) (drop at bytes))) ≡ length (escaped (part bytes at n))
 lent-size bytes at n = ap (λ l. length (escaped l)) (lent-part bytes at n)
+
+pub lent-marked : (bytes : List ℕ) (at n : ℕ) → escaped (part bytes at n) ≡ marked ESC 0 3 (take (at + n - at) (drop at bytes))
+lent-marked bytes at n = escaped-marked (part bytes at n) ∙ ap (marked ESC 0 3) (sym (lent-part bytes at n))
 
 -- a part that is in the buffer is empty where its length is 0
 pub empty-part : (bytes : List ℕ) (at n : ℕ) → at + n ≤ length bytes → isEmpty (part bytes at n) ≡ eqb n 0

@@ -13,7 +13,7 @@ use Rattle.refusal.specs.Refusal.{noRoom, notIsOrInfo, badVariableRecord}
 use Rattle.octets.specs.Choice.{if_then_else_}
 use Rattle.octets.specs.Lent.{Outcome, outcome, overwrite}
 
--- a payload, written where the writer does not object
+-- a payload, written where nothing is held against it
 unfoldable pub put : Objection → List ℕ → List ℕ → Outcome Written
 put (against n) payload out = outcome (Refused n) out
 put none payload out =

@@ -2,7 +2,7 @@
 // buffer, in `specs/Promise.antt`.
 ghost use mathlib.Core.Path.{_≡_};
 ghost use mathlib.Core.Bool.{true};
-ghost use mathlib.Core.List.{List, [], _∷_};
+ghost use mathlib.Core.List.{List};
 ghost use Prim.Native.Nat.{ℕ, _+_, min, _≤_};
 ghost use lib.ListN.{length};
 ghost use Rattle.env.specs.Write.{escaped, writtenVariable, writtenVariables, nameless};
@@ -61,29 +61,6 @@ fn any_nameless(numbers: &[usize]) -> bool
     false
 }
 
-// How many bytes of the payload a byte of a name or a value takes.
-fn escaped_width(b: u8) -> usize
-    ensures { λ r. ⌜ r ≡ length (escaped (b ∷ [])) ⌝ }
-{
-    if 3 < b {
-        return 1;
-    }
-    2
-}
-
-// How many bytes of the payload a name or a value takes.
-fn escaped_length(text: &[u8]) -> usize
-    ensures { λ r. ⌜ r ≡ length (escaped (now (text .entry))) ⌝ }
-{
-    let mut n = 0;
-    let mut i = 0;
-    while i < text.len() {
-        n += escaped_width(text[i]);
-        i += 1;
-    }
-    n
-}
-
 // A length with a name or a value behind it; past the limit, one past it. Names and values may overlap in the buffer, so that the sum of all
 // could wrap.
 fn longer(n: usize, text: &[u8]) -> usize
@@ -93,7 +70,7 @@ fn longer(n: usize, text: &[u8]) -> usize
     if 1024 < text.len() {
         return 1025;
     }
-    let m = n + escaped_length(text);
+    let m = n + octets_marked::marked_length(text, 0, 3);
     if 1024 < m {
         return 1025;
     }
@@ -130,34 +107,6 @@ fn measure(bytes: &[u8], numbers: &[usize]) -> usize
     n
 }
 
-// Puts a byte of a name or a value at a place; the answer is the place behind it.
-fn put_escaped(b: u8, out: &mut [u8], at: usize) -> usize
-    requires { ⌜ at + length (escaped (b ∷ [])) ≤ length (now out) ⌝ }
-    ensures { λ r. ⌜ (r ≡ at + length (escaped (b ∷ []))) × (now (out .exit) ≡ overwrite (now (out .entry)) at (escaped (b ∷ []))) ⌝ }
-{
-    if b <= 3 {
-        out[at] = 2;
-        out[at + 1] = b;
-        return at + 2;
-    }
-    out[at] = b;
-    at + 1
-}
-
-// Puts a name or a value at a place; the answer is the place behind it.
-fn copy_escaped(text: &[u8], out: &mut [u8], at: usize) -> usize
-    requires { ⌜ at + length (escaped (now text)) ≤ length (now out) ⌝ }
-    ensures { λ r. ⌜ (r ≡ at + length (escaped (now (text .entry)))) × (now (out .exit) ≡ overwrite (now (out .entry)) at (escaped (now (text .entry)))) ⌝ }
-{
-    let mut i = 0;
-    let mut k = at;
-    while i < text.len() {
-        k = put_escaped(text[i], out, k);
-        i += 1;
-    }
-    k
-}
-
 // Puts a variable at a place; the answer is the place behind it.
 fn put_variable(bytes: &[u8], v: VariableRecord, out: &mut [u8], at: usize) -> usize
     requires { ⌜ (placed (now bytes) (numbersOf v) ≡ true) × (at + length (writtenVariable (variableOf (now bytes) v)) ≤ length (now out)) ⌝ }
@@ -169,9 +118,9 @@ fn put_variable(bytes: &[u8], v: VariableRecord, out: &mut [u8], at: usize) -> u
     let value = v.value_at;
     let value_end = value + v.value_length;
     out[at] = v.kind as u8;
-    let k = copy_escaped(&bytes[name..name_end], out, at + 1);
+    let k = octets_marked::put_marked(&bytes[name..name_end], 2, 0, 3, out, at + 1);
     out[k] = 1;
-    copy_escaped(&bytes[value..value_end], out, k + 1)
+    octets_marked::put_marked(&bytes[value..value_end], 2, 0, 3, out, k + 1)
 }
 
 // Puts the variables behind the first byte.

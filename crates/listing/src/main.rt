@@ -1,5 +1,5 @@
 // Lists the events of standard input, at most 65,536 bytes. Here is only input and output: the listing is `telnet_listing::list`.
-use telnet_listing::Listed;
+use telnet_line::Listed;
 
 fn main() {
     // One byte more than may come tells that there are too many.

@@ -1,4 +1,4 @@
--- The laws of `overwrite`: a write of nothing and of one byte, two writes one behind the other, a write into a part that was lent, and what stands there after it.
+-- The laws of `overwrite`: a write of nothing and of one byte, two writes one behind the other, and what stands there after it.
 -- Assumes nothing.
 use mathlib.Core.Path.{_≡_, refl, sym, ap, _∙_}
 use mathlib.Core.List.{List, [], _∷_, _++_, append-assoc, append-nil}
@@ -7,8 +7,7 @@ use native.Mathlib.Nat.{add-zero, zero-add, add-assoc}
 use native.Mathlib.Numerals.{add-one}
 use native.Mathlib.Omega.{arith}
 use lib.ListN.{length, getD, take, drop, set, length-append, length-drop, take-append-drop}
-use lib.Seq.{length-take-le, take-append-le, drop-append-le, take-add, drop-drop, take-at, drop-at, take-append-seam, set-split, take-set-le, drop-cons, drop-length, sets, sets-eq}
-use borrow.Rule.Slice.PartMut.{midOf, putMid}
+use lib.Seq.{length-take-le, drop-drop, take-at, drop-at, take-append-seam, set-split, take-set-le, drop-cons, drop-length, sets, sets-eq}
 use Rattle.octets.specs.Lent.{overwrite}
 
 written : (l : List ℕ) (at : ℕ) (x : List ℕ) → overwrite l at x ≡ take at l ++ (x ++ drop (at + length x) l)
@@ -76,30 +75,6 @@ overwrite-snoc l at x b h =
 pub overwrite-front : (l x : List ℕ) → overwrite l 0 x ≡ x ++ drop (length x) l
 unfolding overwrite
 overwrite-front l x = rw zero-add
-
--- a write into what lies behind `a`
-pub overwrite-part : (l : List ℕ) (a at : ℕ) (x : List ℕ) → take a l ++ overwrite (drop a l) at x ≡ overwrite l (a + at) x
-unfolding overwrite
-overwrite-part l a at x = rw (drop-drop, take-add, append-assoc, add-assoc)
-
--- a write within the first of two lists
-pub overwrite-left : (l r : List ℕ) (at : ℕ) (x : List ℕ) → at + length x ≤ length l → overwrite l at x ++ r ≡ overwrite (l ++ r) at x
-unfolding overwrite
-overwrite-left l r at x h =
-    let k : at ≤ length l = omega arith in
-    rw (take-append-le at l r k, drop-append-le (at + length x) l r h, append-assoc, append-assoc)
-
--- what is back where `&mut l[..e]` was lent
-pub overwrite-prefix : (l : List ℕ) (e at : ℕ) (x : List ℕ) → at + length x ≤ e → e ≤ length l → overwrite (take e l) at x ++ drop e l ≡ overwrite l at x
-overwrite-prefix l e at x h k =
-    let g : at + length x ≤ length (take e l) = rw (length-take-le e l k) h in
-    overwrite-left (take e l) (drop e l) at x g ∙ ap (λ b. overwrite b at x) (take-append-drop e l)
-
--- what is back where `&mut l[a..e]` was lent, with `k` for `e - a`; `&mut l[a..]` is the case where `e` is the length
-pub overwrite-mid : (l : List ℕ) (a k at : ℕ) (x : List ℕ) → at + length x ≤ k → a + k ≤ length l → putMid a k l (overwrite (midOf a k l) at x) ≡ overwrite l (a + at) x
-overwrite-mid l a k at x h g =
-    let m : k ≤ length (drop a l) = simp length-drop (omega arith) in
-    ap (λ b. take a l ++ b) (overwrite-prefix (drop a l) k at x h m) ∙ overwrite-part l a at x
 
 pub take-overwrite : (l : List ℕ) (at : ℕ) (x : List ℕ) → at + length x ≤ length l → take (length x) (drop at (overwrite l at x)) ≡ x
 take-overwrite l at x h =

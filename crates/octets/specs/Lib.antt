@@ -1,3 +1,4 @@
+pub mod Ascii
 pub mod Choice
 pub mod Decimal
 pub mod Lent

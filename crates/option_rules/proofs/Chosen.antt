@@ -1,10 +1,12 @@
 -- Which option it is, and which rules it has, from what the code learnt of it. Assumes nothing.
-use mathlib.Core.Path.{_≡_, refl}
+use mathlib.Core.Path.{_≡_, refl, ap, sym, _∙_}
 use Prim.Native.Nat.{ℕ}
 use mathlib.Core.Bool.{Bool, true, false, not}
 use lib.Dec.{T}
 use borrow.Author.Tests.{ne-eqb}
-use Rattle.option_rules.specs.Table.{table, untouched, rulesOf}
+use Rattle.option_rules.specs.declared.Side.{Side}
+use Rattle.option_rules.specs.declared.Step.{Step}
+use Rattle.option_rules.specs.Table.{Cell, Row, stepBy, table, untouched, rulesOf}
 use Rattle.option_rules.specs.Table.{binary, suppressGoAhead, terminalType, endOfRecord, newEnviron, choose, carried}
 
 -- none of the five, as the last arm of a match has it
@@ -32,6 +34,12 @@ pub by-none : (option : ℕ) (b : Bool) → b ≡ carried option → not b ≡ t
 unfolding rulesOf
 by-none option true e n = cc
 by-none option false e n = rw (← e)
+
+-- what the table's cell for a state gives is what the rules give
+pub at-cell : (column : Row → Cell) (option : ℕ) {b : Bool} → b ≡ carried option → not b ≡ false → {s t : Side} → s ≡ t → {r : Step}
+    → r ≡ stepBy s (column (table t)) → r ≡ stepBy s (column (rulesOf option s))
+at-cell column option {b} e n {s} told h =
+    h ∙ ap (λ t. stepBy s (column (table t))) (sym told) ∙ ap (λ f. stepBy s (column (f s))) (sym (by-table option b e n))
 
 pub rules-carried : (option : ℕ) → T (carried option) → rulesOf option ≡ table
 rules-carried option = go (carried option) refl

@@ -3,6 +3,7 @@
 ghost use mathlib.Core.Path.{_≡_};
 ghost use Rattle.option_rules.specs.Table.{stepBy, rulesOf, onReceive, onRequest};
 ghost use Rattle.option_rules.specs.Table as table;
+ghost use Rattle.option_rules.specs.near.Sends.{sendingOf};
 
 // The options that are carried.
 pub const BINARY: u8 = 0;
@@ -43,11 +44,12 @@ pub struct Step {
     pub sends: Sending,
 }
 
-const NOTHING: Sending = Sending::Nothing;
+// What a cell of the table sends, by number: a call is then cheaper to prove than with the value.
+const NOTHING: u8 = 0;
 
-const ON: Sending = Sending::Command(Command::On);
+const ON: u8 = 1;
 
-const OFF: Sending = Sending::Command(Command::Off);
+const OFF: u8 = 2;
 
 // Whether an option is one of the five.
 pub fn carried(option: u8) -> bool
@@ -64,9 +66,14 @@ pub fn carried(option: u8) -> bool
 }
 
 // A cell of the table: the successor, a refusal, a note or 0, and what is sent.
-fn cell(side: Side, number: u8, sends: Sending) -> Step
-    ensures { λ r. ⌜ r ≡ record { side = side; number = number; sends = sends } ⌝ }
+fn cell(side: Side, number: u8, sends: u8) -> Step
+    ensures { λ r. ⌜ r ≡ record { side = side; number = number; sends = sendingOf sends } ⌝ }
 {
+    let sends = match sends {
+        NOTHING => Sending::Nothing,
+        ON => Sending::Command(Command::On),
+        _ => Sending::Command(Command::Off),
+    };
     Step {
         side,
         number,

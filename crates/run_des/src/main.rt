@@ -6,25 +6,13 @@
 ghost use Prim.Native.Nat.{_≤_};
 ghost use lib.ListN.{length};
 
-// The value of a hexadecimal digit, upper case.
-fn digit(b: u8) -> u64 {
-    if b < 58 {
-        return (b % 16) as u64;
-    }
-    (b % 16) as u64 + 9
-}
-
 fn number(digits: &[u8]) -> u64 {
-    let mut n: u64 = 0;
-    let mut i = 0;
-    while i < digits.len() {
-        n = (n << 4) | digit(digits[i]);
-        i += 1;
-    }
-    n
+    let mut bytes = [0u8; 8];
+    show::read_hex(digits, &mut bytes);
+    words::word_64(&bytes)
 }
 
-fn show(key: u64, plaintext: u64) {
+fn say(key: u64, plaintext: u64) {
     io::print_hex(1, key, 16);
     io::write_all(1, b" ");
     io::print_hex(1, plaintext, 16);
@@ -37,7 +25,7 @@ fn show(key: u64, plaintext: u64) {
 fn line(text: &[u8])
     requires { ⌜ 33 ≤ length (now text) ⌝ }
 {
-    show(number(&text[0..16]), number(&text[17..33]));
+    say(number(&text[0..16]), number(&text[17..33]));
 }
 
 // Lines of 34 bytes, the line end among them.
@@ -50,7 +38,7 @@ fn run(lines: &[u8]) {
     }
 }
 
-fn show_chain(blocks: &[u64]) {
+fn say_chain(blocks: &[u64]) {
     io::print_hex(1, des_cipher::cbc_last(0x0123456789ABCDEF, blocks), 16);
     io::write_all(1, b"\n");
 }
@@ -64,8 +52,8 @@ fn main() {
         0x68652074696D6520,
         0x666F7220616C6C20,
     ];
-    show_chain(&text[..0]);
-    show_chain(&text[..1]);
-    show_chain(&text[..2]);
-    show_chain(&text);
+    say_chain(&text[..0]);
+    say_chain(&text[..1]);
+    say_chain(&text[..2]);
+    say_chain(&text);
 }

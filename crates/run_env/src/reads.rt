@@ -8,7 +8,7 @@ use crate::show::say_number;
 use crate::show::say_payload;
 use crate::show::say_refused;
 use crate::show::say_text;
-use env_reader::Answer;
+use env_delivery::Answer;
 use env_records::ValuePlace;
 use env_records::VariableRecord;
 use env_writer::Written;

@@ -19,30 +19,18 @@ const LENGTHS: [usize; 16] = [
     276,
 ];
 
-fn show_byte(b: u8) {
-    io::print_hex(1, b as u64, 2);
+fn say(message: &[u8]) {
+    let mut line = [b'\n'; 41];
+    show::put_hex(&sha1::digest(message), &mut line, 0);
+    io::write_all(1, &line);
 }
 
-fn end_line() {
-    io::write_all(1, b"\n");
-}
-
-fn show(message: &[u8]) {
-    let digest = sha1::digest(message);
-    let mut i = 0;
-    while i < 20 {
-        show_byte(digest[i]);
-        i += 1;
-    }
-    end_line();
-}
-
-fn show_million() {
-    show(&[b'a'; 1000000]);
+fn say_million() {
+    say(&[b'a'; 1000000]);
 }
 
 // The message of `n` bytes about an edge.
-fn show_edge(n: usize) {
+fn say_edge(n: usize) {
     let mut message = [0u8; 276];
     let mut i = 0;
     while i < 276 {
@@ -50,17 +38,17 @@ fn show_edge(n: usize) {
         i += 1;
     }
     if n <= 276 {
-        show(&message[..n]);
+        say(&message[..n]);
     }
 }
 
 fn main() {
-    show(b"abc");
-    show(b"abcdbcdecdefdefgefghfghighijhijkijkljklmklmnlmnomnopnopq");
-    show_million();
+    say(b"abc");
+    say(b"abcdbcdecdefdefgefghfghighijhijkijkljklmklmnlmnomnopnopq");
+    say_million();
     let mut k = 0;
     while k < 16 {
-        show_edge(LENGTHS[k]);
+        say_edge(LENGTHS[k]);
         k += 1;
     }
 }

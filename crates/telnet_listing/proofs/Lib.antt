@@ -1,4 +1,3 @@
-pub mod Put
-pub mod Placing
+pub mod Sized
 pub mod Lines
 pub mod Sample

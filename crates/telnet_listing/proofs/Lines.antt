@@ -1,11 +1,13 @@
 -- The lines from a place on, turn by turn: the line of what stands there, and then those from the next place on, if there is one.
 -- Assumes nothing.
-use mathlib.Core.Path.{_≡_, refl, sym, ap, _∙_, subst}
+use mathlib.Core.Path.{_≡_, refl, sym, ap, ap₂, _∙_, subst}
 use mathlib.Core.List.{List, [], _++_, append-nil}
 use Prim.Native.Nat.{ℕ, _+_, _≤_, _<_}
 use native.Mathlib.Omega.{arith}
 use lib.ListN.{length, drop, length-append, length-drop}
 use lib.Seq.{drop-drop}
+use Rattle.octets.specs.Lent.{overwrite}
+use Rattle.octets.proofs.Overwrite.{overwrite-append}
 use Rattle.telnet_reader.specs.declared.Answer.{Answer}
 use Rattle.telnet_reader.specs.declared.Answer.the-variants.{End, Found, Refused}
 use Rattle.telnet.specs.Read.{Front, noEvent, found, refused, eventOf}
@@ -15,7 +17,8 @@ use Rattle.telnet.specs.Theorems.{readOn}
 use Rattle.telnet.proofs.Unroll.{unrolled}
 use Rattle.telnet_reader.proofs.Places.{looked}
 use Rattle.telnet_reader.proofs.Carried.{Carries, none, not-found, carries, event-carries}
-use Rattle.telnet_listing.specs.Listing.{answerText, line, linesFrom, listing}
+use Rattle.telnet_line.specs.Line.{answerText, line}
+use Rattle.telnet_listing.specs.Listing.{linesFrom, listing}
 
 abbrev linesOf : ℕ → Reading → List ℕ
 linesOf i r = linesFrom i (r .events) (r .ending)
@@ -51,6 +54,20 @@ module _ (s : List ℕ) (i : ℕ) (h : i ≤ length s) where
   pub turn-length : {r q : Answer} → r ≡ lookAt s i → r ≡ q
       → length (linesAt s i) ≡ length (line i (answerText r)) + length (behind s q)
   turn-length {r} {q} e g = ap length (turn e g) ∙ length-append (line i (answerText r)) (behind s q)
+
+  -- a turn puts its line, and then come the lines behind it
+  pub turn-put : {r q : Answer} → r ≡ lookAt s i → r ≡ q → (b : List ℕ) (at : ℕ) {l : List ℕ} {n : ℕ}
+      → at + length (linesAt s i) ≤ length b → l ≡ overwrite b at (line i (answerText r)) → n ≡ length (line i (answerText r))
+      → overwrite l (at + n) (behind s q) ≡ overwrite b at (linesAt s i)
+  turn-put {r} {q} e g b at h p k =
+      ap₂ (λ u m. overwrite u (at + m) (behind s q)) p k
+      ∙ overwrite-append b at (line i (answerText r)) (behind s q) (omega (arith, turn-length e g))
+      ∙ ap (overwrite b at) (sym (turn e g))
+
+  -- the last turn puts all that is left
+  pub last-put : {r q : Answer} → r ≡ lookAt s i → r ≡ q → behind s q ≡ [] → (b : List ℕ) (at : ℕ) {l : List ℕ}
+      → l ≡ overwrite b at (line i (answerText r)) → l ≡ overwrite b at (linesAt s i)
+  last-put {r} e g z b at p = p ∙ ap (overwrite b at) (sym (turn e g ∙ ap (λ y. line i (answerText r) ++ y) z ∙ append-nil _))
 
   -- the next place is further on, and not past the end
   abbrev pub Further : Answer → Type 0

@@ -1,4 +1,3 @@
 pub mod Listing
 pub mod near
-pub mod Promise
 pub mod Sample

@@ -1,1 +1,2 @@
-pub mod Put
+-- Definitions that only the contracts of private functions speak of.
+pub mod Sized

@@ -1,52 +1,14 @@
 // The listing of a stream: a line for each event, with its place, and one for how the stream ended. What is right is said in `specs/`:
 // start with `Listing.antt`.
 ghost use mathlib.Core.Path.{_≡_};
-ghost use Prim.Native.Nat.{_+_, _≤_};
+ghost use Prim.Native.Nat.{_≤_};
 ghost use lib.ListN.{length};
 ghost use Rattle.octets.specs.Lent.{outcome, overwrite};
-ghost use Rattle.telnet_listing.specs.Listing.{answerText, line as lineOf, listing};
-ghost use Rattle.telnet_listing.specs.near.Put.{Put};
-ghost use Rattle.telnet_listing.specs.Promise.{sized, putFront};
+ghost use Rattle.telnet_line.specs.Promise.{putFront};
+ghost use Rattle.telnet_listing.specs.Listing.{listing};
+ghost use Rattle.telnet_listing.specs.near.Sized.{sized};
+use telnet_line::Listed;
 use telnet_reader::Answer;
-
-mod words;
-
-// How many bytes were written, or a refusal.
-pub enum Listed {
-    Wrote(usize),
-    Refused(u8),
-}
-
-// How long a line is.
-fn line_length(place: usize, answer: Answer) -> usize
-    ensures { λ r. ⌜ r ≡ length (lineOf place (answerText answer)) ⌝ }
-{
-    let mut words = [0u8; 67];
-    words::compose(place, answer, &mut words)
-}
-
-// Puts a line at a place of the buffer, and answers the place behind it.
-fn line_at(place: usize, answer: Answer, out: &mut [u8], at: usize) -> usize
-    requires { ⌜ at + length (lineOf place (answerText answer)) ≤ length (now out) ⌝ }
-    ensures { λ r. ⌜ Put (lineOf place (answerText answer)) 67 (now (out .entry)) at r (now (out .exit)) ⌝ }
-{
-    let mut words = [0u8; 67];
-    let n = words::compose(place, answer, &mut words);
-    octets::put(&words[..n], out, at);
-    at + n
-}
-
-// The line of what stands at a place.
-pub fn line(place: usize, answer: Answer, out: &mut [u8]) -> Listed
-    ensures { λ r. ⌜ outcome r (now (out .exit)) ≡ putFront (lineOf place (answerText answer)) (now (out .entry)) ⌝ }
-{
-    let n = line_length(place, answer);
-    if out.len() < n {
-        return Listed::Refused(refusal::NO_ROOM);
-    }
-    line_at(place, answer, out, 0);
-    Listed::Wrote(n)
-}
 
 // How long the whole listing is, if there is room for it. To go on past the room might wrap the sum, so it stops there.
 fn listing_length(s: &[u8], room: usize) -> Listed
@@ -56,7 +18,8 @@ fn listing_length(s: &[u8], room: usize) -> Listed
     let mut total = 0;
     loop {
         let answer = telnet_reader::look(s, i);
-        let n = line_length(i, answer);
+        let text = telnet_line::line_text(i, answer);
+        let n = text.length;
         if room - total < n {
             return Listed::Refused(refusal::NO_ROOM);
         }
@@ -88,7 +51,11 @@ fn put_lines(s: &[u8], out: &mut [u8])
     let mut at = 0;
     loop {
         let answer = telnet_reader::look(s, i);
-        at = line_at(i, answer, out, at);
+        let line = telnet_line::line_text(i, answer);
+        let bytes = line.bytes;
+        let n = line.length;
+        octets::put(&bytes[0..n], out, at);
+        at += n;
         match answer {
             Answer::Found {
                 kind: _,

@@ -18,7 +18,8 @@ use Rattle.telnet_reader.specs.declared.Answer.the-variants.{End, Found,
 use Rattle.telnet.specs.Event.{Event, run, command, negotiation, kind, carriedBytes, lead, se, payloadLimit}
 use Rattle.telnet.specs.Write.{written, doubled}
 use Rattle.telnet.specs.Read.{undoubled, Front, noEvent, found, refused, closed, afterSb, afterVerb, afterLead, afterIac, runOr, eventOf}
-use Rattle.telnet_reader.specs.near.Scan.{leadIn, span}
+use Rattle.telnet_data.specs.Promise.{span}
+use Rattle.telnet_reader.specs.near.Lead.{leadIn}
 use Rattle.telnet.specs.Record.{dataOf}
 use Rattle.telnet_reader.proofs.Places.{span-within, doubled-longer}
 use Rattle.telnet_reader.specs.Promise.{answered, lookAt, delivered, readAt}

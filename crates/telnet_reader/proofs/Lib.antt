@@ -1,4 +1,2 @@
-pub mod Widths
 pub mod Places
 pub mod Carried
-pub mod Gathering

@@ -18,7 +18,7 @@ use Rattle.telnet.specs.declared.Kind.the-variants.{Data, Negotiation, Subnegot
 use Rattle.telnet.specs.Event.{subnegotiation, lead, iac, se, payloadLimit}
 use Rattle.telnet.specs.Write.{doubled, written}
 use Rattle.telnet.specs.Read.{undoubled, afterVerb, afterSb, closed, afterIac, afterLead, eventOf, runOr, Front}
-use Rattle.telnet_reader.specs.near.Scan.{count, span}
+use Rattle.telnet_data.specs.Promise.{count, span}
 use Rattle.telnet_reader.specs.Promise.{answered, lookAt}
 use Rattle.telnet.proofs.Stretch.{stretch}
 use Rattle.octets.proofs.Front.{empty, at-front, pair-front}
@@ -93,8 +93,10 @@ module _ (s : List ℕ) (at : ℕ) where
         → answered at (afterSb (drop (at + 2) s)) ≡ Found (Subnegotiation (getD s (at + 2) 0)) (count (drop (at + 3) s)) (tail + 2)
     unfolding answered closed count span written
     sb-found g e =
-        let l : at + length (written (subnegotiation (getD s (at + 2) 0) (undoubled (drop (at + 3) s)))) ≡ tail + 2 = simp length-append (omega arith) in
-        rw (opened-closed h k, pair-front s tail g, eq-eqb (getD s (tail + 1) 0) se e) (ap (Found (Subnegotiation (getD s (at + 2) 0)) (count (drop (at + 3) s))) l)
+        let l : at + length (written (subnegotiation (getD s (at + 2) 0) (undoubled (drop (at + 3) s)))) ≡ tail + 2 = simp length-append
+        (omega arith) in
+        rw (opened-closed h k, pair-front s tail g, eq-eqb (getD s (tail + 1) 0) se e)
+        (ap (Found (Subnegotiation (getD s (at + 2) 0)) (count (drop (at + 3) s))) l)
 
   -- behind a 255 at the place
   pub iac-cut : length s ≤ at + 1 → answered at (afterIac (drop (at + 1) s)) ≡ Refused cutShort

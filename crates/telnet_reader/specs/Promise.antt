@@ -6,13 +6,9 @@ use lib.Dec.{ltb}
 use lib.ListN.{length, drop}
 use Rattle.telnet_reader.specs.declared.Answer.{Answer}
 use Rattle.telnet_reader.specs.declared.Answer.the-variants.{End, Found, Refused}
-use Rattle.telnet_reader.specs.declared.Record.{Record}
-use Rattle.telnet_reader.specs.declared.Record.the-variants.{Complete, Unfinished, Refused as NoRecord}
 use Rattle.telnet.specs.Event.{kind, carriedBytes}
 use Rattle.telnet.specs.Write.{written}
 use Rattle.telnet.specs.Read.{Front, noEvent, found, refused, eventOf}
-use Rattle.telnet.specs.Whole.{Ending, well, refusal}
-use Rattle.telnet.specs.Record.{Gathered, complete, noRecord, recordOf}
 use Rattle.refusal.specs.Refusal.{noRoom, pastTheEnd}
 use Rattle.octets.specs.Choice.{if_then_else_}
 use Rattle.octets.specs.Lent.{Outcome, outcome, overwrite}
@@ -38,19 +34,3 @@ delivered at (found e) out =
 -- the event at a place, read
 unfoldable pub readAt : List ℕ → ℕ → List ℕ → Outcome Answer
 readAt s at out = if ltb (length s) at then outcome (Refused pastTheEnd) out else delivered at (eventOf (drop at s)) out
-
--- no record: the input ended first, or was refused
-unfoldable pub answerNoRecord : Ending → Record
-answerNoRecord well = Unfinished
-answerNoRecord (refusal n) = NoRecord n
-
--- a record that was found from a place on, with its data put into the buffer
-unfoldable pub kept : ℕ → Gathered → List ℕ → Outcome Record
-kept at (noRecord how) out = outcome (answerNoRecord how) out
-kept at (complete d n) out =
-    if ltb (length out) (length d) then outcome (NoRecord noRoom) out
-    else outcome (Complete (length d) (at + n)) (overwrite out 0 d)
-
--- the record from a place on, read
-unfoldable pub recordAt : List ℕ → ℕ → List ℕ → Outcome Record
-recordAt s at out = if ltb (length s) at then outcome (NoRecord pastTheEnd) out else kept at (recordOf (drop at s)) out

@@ -1,2 +1,2 @@
-pub mod Scan
-pub mod Gather
+-- Definitions that only the contracts of private functions speak of.
+pub mod Lead

@@ -1,13 +1,16 @@
-// Reading events and records from the bytes of a line. The callers own every buffer; nothing is kept between calls. What is right is said in the
-// crate `telnet`; what is answered, and left in a buffer, in `specs/Promise.antt`.
-mod reader;
-mod records;
-mod scan;
-
-pub use reader::look;
-pub use reader::read;
-pub use records::read_record;
+// Reading one event at a place of a line. The caller owns the buffer; nothing is kept between calls. What is right is said in the crate
+// `telnet`; what is answered, and left in the buffer, in `specs/Promise.antt`.
+ghost use mathlib.Core.Path.{_≡_};
+ghost use Prim.Native.Nat.{_+_, _<_, _^_};
+ghost use lib.ListN.{length, drop};
+ghost use Rattle.telnet.specs.Event.{lead};
+ghost use Rattle.telnet.specs.Read.{afterIac, afterSb, afterVerb};
+ghost use Rattle.telnet_reader.specs.near.Lead.{leadIn};
+ghost use Rattle.telnet_reader.specs.Promise.{answered, lookAt, readAt};
+ghost use Rattle.octets.specs.Lent.{outcome};
 use telnet::Kind;
+use telnet::Lead;
+use telnet::Verb;
 
 // What stands at a place: nothing more, an event with the number of bytes that it carries and the place behind it, or a refusal.
 pub enum Answer {
@@ -20,9 +23,144 @@ pub enum Answer {
     Refused(u8),
 }
 
-// A record, with the number of its bytes and the place behind it; no end-of-record before the input ended; or a refusal.
-pub enum Record {
-    Complete { length: usize, next: usize },
-    Unfinished,
-    Refused(u8),
+// What a byte behind a 255 begins.
+fn lead_of(c: u8) -> Lead
+    ensures { λ r. ⌜ r ≡ lead c ⌝ }
+{
+    if c < 239 {
+        return Lead::Faulty;
+    }
+    match c {
+        240 => Lead::Faulty,
+        250 => Lead::Opens,
+        251 => Lead::Negotiates(Verb::Will),
+        252 => Lead::Negotiates(Verb::Wont),
+        253 => Lead::Negotiates(Verb::Do),
+        254 => Lead::Negotiates(Verb::Dont),
+        _ => Lead::Simple,
+    }
+}
+
+// What stands at a 255 with the byte behind it.
+fn command(s: &[u8], at: usize) -> Answer
+    requires { ⌜ at < length (now s) ⌝ }
+    ensures { λ r. ⌜ r ≡ answered at (afterIac (drop (at + 1) (now (s .entry)))) ⌝ }
+{
+    let behind = at + 1;
+    if behind == s.len() {
+        return Answer::Refused(refusal::CUT_SHORT);
+    }
+    let c = s[behind];
+    match lead_of(c) {
+        Lead::Faulty => Answer::Refused(refusal::BAD_COMMAND),
+        Lead::Opens => subnegotiation(s, at),
+        Lead::Negotiates(verb) => negotiation(verb, s, at),
+        Lead::Simple => Answer::Found {
+            kind: Kind::Command(c),
+            length: 0,
+            next: at + 2,
+        },
+    }
+}
+
+// An option command: its option byte is raw.
+fn negotiation(verb: Verb, s: &[u8], at: usize) -> Answer
+    requires { ⌜ at + 1 < length (now s) ⌝ }
+    ensures { λ r. ⌜ r ≡ answered at (afterVerb verb (drop (at + 2) (now (s .entry)))) ⌝ }
+{
+    let place = at + 2;
+    if place == s.len() {
+        return Answer::Refused(refusal::CUT_SHORT);
+    }
+    Answer::Found {
+        kind: Kind::Negotiation(verb, s[place]),
+        length: 0,
+        next: at + 3,
+    }
+}
+
+// A subnegotiation: an option byte, which is raw, the payload, and 255 240.
+fn subnegotiation(s: &[u8], at: usize) -> Answer
+    requires { ⌜ at + 1 < length (now s) ⌝ }
+    ensures { λ r. ⌜ r ≡ answered at (afterSb (drop (at + 2) (now (s .entry)))) ⌝ }
+{
+    let place = at + 2;
+    if place == s.len() {
+        return Answer::Refused(refusal::CUT_SHORT);
+    }
+    let option = s[place];
+    let payload = telnet_data::measure(s, at + 3);
+    let count = payload.count;
+    let end = payload.end;
+    if 1024 < count {
+        return Answer::Refused(refusal::PAYLOAD_TOO_LONG);
+    }
+    if s.len() - end < 2 {
+        return Answer::Refused(refusal::CUT_SHORT);
+    }
+    if s[end + 1] != 240 {
+        return Answer::Refused(refusal::UNDOUBLED);
+    }
+    Answer::Found {
+        kind: Kind::Subnegotiation(option),
+        length: count,
+        next: end + 2,
+    }
+}
+
+// The event at a place: its kind, how many bytes it carries, and the place behind it. Nothing is copied.
+pub fn look(s: &[u8], at: usize) -> Answer
+    ensures { λ r. ⌜ r ≡ lookAt (now (s .entry)) at ⌝ }
+{
+    if s.len() < at {
+        return Answer::Refused(refusal::PAST_THE_END);
+    }
+    let run = telnet_data::measure(s, at);
+    let count = run.count;
+    if 0 < count {
+        return Answer::Found {
+            kind: Kind::Data,
+            length: count,
+            next: run.end,
+        };
+    }
+    if at == s.len() {
+        return Answer::End;
+    }
+    command(s, at)
+}
+
+// Where the bytes that an event at a place carries begin.
+fn data_place(kind: Kind, at: usize) -> usize
+    requires { ⌜ at + 3 < 2 ^ 64 ⌝ }
+    ensures { λ r. ⌜ r ≡ at + leadIn kind ⌝ }
+{
+    match kind {
+        Kind::Data => at,
+        Kind::Command(_) => at,
+        Kind::Negotiation(_, _) => at,
+        Kind::Subnegotiation(_) => at + 3,
+    }
+}
+
+// The event at a place, with the bytes that it carries copied to the front of the buffer.
+pub fn read(s: &[u8], at: usize, out: &mut [u8]) -> Answer
+    ensures { λ r. ⌜ outcome r (now (out .exit)) ≡ readAt (now (s .entry)) at (now (out .entry)) ⌝ }
+{
+    let answer = look(s, at);
+    match answer {
+        Answer::Found { kind, length, next } => {
+            if out.len() < length {
+                return Answer::Refused(refusal::NO_ROOM);
+            }
+            telnet_data::copy(s, data_place(kind, at), length, out, 0);
+            return Answer::Found { kind, length, next };
+        }
+        Answer::End => {
+            return Answer::End;
+        }
+        Answer::Refused(n) => {
+            return Answer::Refused(n);
+        }
+    }
 }

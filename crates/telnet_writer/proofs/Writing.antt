@@ -1,53 +1,38 @@
--- The laws that each way out of the writer cites: data doubled byte by byte, stores in a row, and what an event's writing answers.
+-- The laws that each way out of the writer cites: doubling as a mark, stores in a row, and what an event's writing answers.
 -- Assumes nothing.
 use mathlib.Core.Path.{_≡_, refl, sym, ap, _∙_}
 use mathlib.Core.Bool.{Bool, true, false}
+use mathlib.Core.Logic.{⊎-elim}
 use mathlib.Core.List.{List, [], _∷_, _++_}
-use Prim.Native.Nat.{ℕ, _+_, _*_, _≤_, _<_}
+use Prim.Native.Nat.{ℕ, _+_, _≤_, _<_}
 use native.Mathlib.Omega.{arith}
 use lib.Dec.{eqb}
-use lib.ListN.{length, drop, getD, set, length-append, drop-of-length-le}
+use lib.ListN.{length, set, length-append}
 use lib.Seq.{sets}
-use borrow.Author.Tests.{lt-ltb, le-ltb, eq-eqb, ne-eqb}
+use borrow.Author.Tests.{lt-ltb, le-ltb, le-leb, lt-leb, eqb-true, eqb-false}
 use Rattle.telnet_writer.specs.declared.Written.the-variants.{Wrote, Refused}
 use Rattle.telnet.specs.Event.{Event, run, subnegotiation, iac, sb, se}
 use Rattle.telnet.specs.Write.{doubled, written, writable}
 use Rattle.telnet_writer.specs.Promise.{writeOf, unwritable}
-use Rattle.telnet.proofs.Stretch.{doubled-iac, doubled-other, doubled-append}
-use Rattle.octets.proofs.Front.{empty, at-front}
+use Rattle.octets_marked.specs.Marked.{marked, putMarked}
+use Rattle.octets_marked.proofs.Marked.{marked-size, put-whole, put-none}
+use Rattle.octets.proofs.Front.{empty}
+use Rattle.octets.proofs.Order.{below-or-above}
 use Rattle.octets.specs.Lent.{outcome, overwrite}
 use Rattle.octets.proofs.Overwrite.{length-overwrite, overwrite-append, stored, stored-pair}
 use Rattle.refusal.specs.Refusal.{noRoom}
 
--- one byte
-pub doubled-one-iac : (b : ℕ) → b ≡ iac → doubled (b ∷ []) ≡ b ∷ b ∷ []
-unfolding doubled
-doubled-one-iac b e = doubled-iac b [] (eq-eqb b iac e)
-
-pub doubled-one : (b : ℕ) → (b ≡ iac → ⊥) → doubled (b ∷ []) ≡ b ∷ []
-unfolding doubled
-doubled-one b n = doubled-other b [] (ne-eqb b iac n)
-
--- data from a place on: the byte there, and the data behind it
-pub doubled-at : (s : List ℕ) (i : ℕ) → i < length s → doubled (drop i s) ≡ doubled (getD s i 0 ∷ []) ++ doubled (drop (i + 1) s)
-doubled-at s i h = ap doubled (at-front s i h) ∙ doubled-append (getD s i 0 ∷ []) (drop (i + 1) s)
-
-pub length-doubled-at : (s : List ℕ) (i : ℕ) → i < length s
-    → length (doubled (drop i s)) ≡ length (doubled (getD s i 0 ∷ [])) + length (doubled (drop (i + 1) s))
-length-doubled-at s i h = ap length (doubled-at s i h) ∙ length-append (doubled (getD s i 0 ∷ [])) (doubled (drop (i + 1) s))
-
-pub doubled-end : (s : List ℕ) (i : ℕ) → length s ≤ i → doubled (drop i s) ≡ []
-unfolding doubled
-doubled-end s i h = rw (drop-of-length-le s {i = i} h)
-
-pub doubled-at-most : (d : List ℕ) → length (doubled d) ≤ 2 * length d
-unfolding doubled
-doubled-at-most [] = omega arith
-doubled-at-most (b ∷ d) = go (eqb b iac) refl (doubled-at-most d)
+-- doubling is a mark of 255 before each 255
+pub doubled-marked : (d : List ℕ) → doubled d ≡ marked iac iac iac d
+unfolding doubled marked
+doubled-marked [] = refl
+doubled-marked (b ∷ d) = go (eqb b iac) refl (doubled-marked d)
   where
-    go : (t : Bool) → eqb b iac ≡ t → length (doubled d) ≤ 2 * length d → length (doubled (b ∷ d)) ≤ 2 * length (b ∷ d)
-    go true e h = rw e (omega arith)
-    go false e h = rw e (omega arith)
+    go : (t : Bool) → eqb b iac ≡ t → doubled d ≡ marked iac iac iac d → doubled (b ∷ d) ≡ marked iac iac iac (b ∷ d)
+    go true e h = rw (eqb-true b iac e, h)
+    go false e h =
+        let other = eqb-false b iac e in
+        ⊎-elim (λ less. rw (e, lt-leb iac b less, h)) (λ more. rw (e, le-leb iac b more, lt-leb b iac (omega (arith, other)), h)) (below-or-above b iac)
 
 -- the writer's stores for a subnegotiation: what opens it, its payload, what closes it
 pub stored-subnegotiation : (o end : ℕ) (p out : List ℕ) → end ≡ 3 + length (doubled p) → end + 2 ≤ length out
@@ -95,3 +80,24 @@ module _ (e : Event) (out : List ℕ) where
       → {n : ℕ} → n ≡ length (written e) → {l : List ℕ} → l ≡ overwrite out 0 (written e) → outcome (Wrote n) l ≡ writeOf e out
   unfolding writeOf
   fitting w h g k = rw (w, le-ltb (length out) (length (written e)) h, g, k)
+
+-- a run that was put, by the place behind it
+module _ (d out : List ℕ) (full : length d ≡ 0 → ⊥) (n : ℕ) (l : List ℕ) (e : outcome n l ≡ putMarked iac iac iac d out 0) where
+  pub run-not-fitting : n ≡ 0 → outcome (Refused noRoom) l ≡ writeOf (run d) out
+  unfolding written
+  run-not-fitting z = ⊎-elim
+      (λ less. ap (outcome (Refused noRoom)) (put-none iac iac iac d out 0 (doubled d) (doubled-marked d) (omega arith) e .1)
+      ∙ not-fitting (run d) out (run-full d full) less)
+      (λ more.
+      let whole = put-whole iac iac iac d out 0 (doubled d) (doubled-marked d) (omega arith) e in
+      absurd (full (omega (arith, whole .0, marked-size iac iac iac d, ap length (doubled-marked d)))))
+      (below-or-above (length out) (length (doubled d)))
+
+  pub run-fitting : (n ≡ 0 → ⊥) → outcome (Wrote n) l ≡ writeOf (run d) out
+  unfolding written
+  run-fitting z = ⊎-elim
+      (λ less. absurd (z (put-none iac iac iac d out 0 (doubled d) (doubled-marked d) (omega arith) e .0)))
+      (λ more.
+      let whole = put-whole iac iac iac d out 0 (doubled d) (doubled-marked d) (omega arith) e in
+      fitting (run d) out (run-full d full) more (omega (arith, whole .0)) (whole .1))
+      (below-or-above (length out) (length (doubled d)))

@@ -30,7 +30,17 @@ six-requires-8 c κs = search needs
 
 returns : tie.Need-returns
 unfolding groups
-returns c = cc
+returns c =
+    rw (
+      c .six8 .ensures,
+      c .before .six7 .ensures,
+      c .before .before .six6 .ensures,
+      c .before .before .before .six5 .ensures,
+      c .before .before .before .before .six4 .ensures,
+      c .before .before .before .before .before .six3 .ensures,
+      c .before .before .before .before .before .before .six2 .ensures,
+      c .before .before .before .before .before .before .before .six .ensures,
+    )
 
 pub split-spec : {M : Type 1} → statement M
 split-spec =

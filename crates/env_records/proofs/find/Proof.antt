@@ -1,6 +1,6 @@
 -- `env_records::find` meets its contract. The loop's invariant: the place that the records from i on give is the one that all give. The measure is how many are left.
 -- Assumes nothing.
-use mathlib.Core.Path.{_≡_, sym, _∙_}
+use mathlib.Core.Path.{_≡_, sym, ap, _∙_}
 use mathlib.Core.Bool.{true, false}
 use Prim.Native.Nat.{_*_, _/_, _-_}
 use native.Mathlib.Omega.{arith}
@@ -31,7 +31,11 @@ returns : tie.Need-returns Inv-loop μ-loop
 returns c =
     let l = c .before .before .before .before .loop in
     let s = c .before .before .before .before .before .before .before .before .args in
-    let test : is (s .kind) (s .name .now) (variableOf (s .bytes .now) (recordAt (s .numbers .now) (l .i))) ≡ true = cc in
+    let test : is (s .kind) (s .name .now) (variableOf (s .bytes .now) (recordAt (s .numbers .now) (l .i))) ≡ true =
+    ap (λ v. is (s .kind) (s .name .now) (variableOf (s .bytes .now) v)) (sym (c .before .before .record-at .ensures))
+    ∙ sym (c .before .is-of .ensures)
+    ∙ c .if1 .taken
+    in
     sym (sym (l .inv) ∙ rw (place-step (s .kind) (s .name .now) (s .bytes .now) (s .numbers .now) (l .i) (omega arith), test, ← c .before .before .record-at .ensures))
 
 add-i : tie.Need-add-i Inv-loop μ-loop
@@ -44,7 +48,11 @@ loop-again : tie.Need-loop-again Inv-loop μ-loop
 loop-again c =
     let l = c .before .before .before .before .loop in
     let s = c .before .before .before .before .before .before .before .before .args in
-    let test : is (s .kind) (s .name .now) (variableOf (s .bytes .now) (recordAt (s .numbers .now) (l .i))) ≡ false = cc in
+    let test : is (s .kind) (s .name .now) (variableOf (s .bytes .now) (recordAt (s .numbers .now) (l .i))) ≡ false =
+    ap (λ v. is (s .kind) (s .name .now) (variableOf (s .bytes .now) v)) (sym (c .before .before .record-at .ensures))
+    ∙ sym (c .before .is-of .ensures)
+    ∙ c .if1 .left
+    in
     rw (place-step (s .kind) (s .name .now) (s .bytes .now) (s .numbers .now) (l .i) (omega arith), test) at (l .inv)
 
 returns-2 : tie.Need-returns-2 Inv-loop μ-loop

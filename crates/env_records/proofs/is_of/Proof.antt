@@ -19,24 +19,24 @@ clipped-requires c κs = search needs
 part-end-requires : tie.Need-part-end-requires
 part-end-requires c κs = search needs
 
-sub-same-text : tie.Need-sub-same-text
-sub-same-text c = search needs
+sub-same : tie.Need-sub-same
+sub-same c = search needs
 
-part-same-text-start : tie.Need-part-same-text-start
-part-same-text-start c = search needs
+part-same-start : tie.Need-part-same-start
+part-same-start c = search needs
 
-part-same-text-end : tie.Need-part-same-text-end
-part-same-text-end c = search needs
+part-same-end : tie.Need-part-same-end
+part-same-end c = search needs
 
-same-text-requires : tie.Need-same-text-requires
-same-text-requires c κs = search needs
+same-requires : tie.Need-same-requires
+same-requires c κs = search needs
 
 returns-2 : tie.Need-returns-2
 unfolding is
 returns-2 c =
     let s = c .before .before .before .before .before .before .before .before .args in
     let lent = part-lent (s .bytes .now) (s .v .«name_at») (s .v .«name_length») _ _ (c .before .before .before .clipped .ensures) (c .before .before .part-end .ensures) in
-    rw (eq-eqb (s .kind) (s .v .kind) (omega arith)) (c .same-text .ensures ∙ ap (same (s .name .now)) lent)
+    rw (eq-eqb (s .kind) (s .v .kind) (omega arith)) (c .same .ensures ∙ ap (same (s .name .now)) lent)
 
 pub is-of-spec : {M : Type 1} → statement M
 is-of-spec =
@@ -45,8 +45,8 @@ is-of-spec =
     returns
     clipped-requires
     part-end-requires
-    sub-same-text
-    part-same-text-start
-    part-same-text-end
-    same-text-requires
+    sub-same
+    part-same-start
+    part-same-end
+    same-requires
     returns-2)

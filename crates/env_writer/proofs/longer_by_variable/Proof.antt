@@ -24,7 +24,7 @@ part-longer-start : tie.Need-part-longer-start
 part-longer-start c = search needs
 
 part-longer-end : tie.Need-part-longer-end
-part-longer-end c = omega (arith, good (c .before .before .before))
+part-longer-end c = good (c .before .before .before) .name
 
 longer-requires : tie.Need-longer-requires
 longer-requires c κs = search needs
@@ -36,7 +36,7 @@ part-longer-start-2 : tie.Need-part-longer-start-2
 part-longer-start-2 c = search needs
 
 part-longer-end-2 : tie.Need-part-longer-end-2
-part-longer-end-2 c = omega (arith, good (c .before .before .before .before .before))
+part-longer-end-2 c = good (c .before .before .before .before .before) .value
 
 longer-requires-2 : tie.Need-longer-requires-2
 longer-requires-2 c κs = search needs

@@ -5,12 +5,13 @@ use Prim.Native.Nat.{ℕ, _+_, _≤_}
 use native.Mathlib.Omega.{arith}
 use lib.ListN.{length, set, length-set}
 use borrow.Author.Needs.{needs}
-use Rattle.env.specs.Variable.{VALUE}
+use Rattle.env.specs.Variable.{VALUE, ESC}
 use Rattle.env.specs.Write.{escaped, writtenVariable}
 use Rattle.env.specs.Numbers.{part}
 use Rattle.octets.specs.Lent.{overwrite}
+use Rattle.octets_marked.proofs.Marked.{put-whole}
 use Rattle.env_writer.proofs.Writing.{stored-variable}
-use Rattle.env_writer.proofs.WritingRecords.{Within, within, lent-part, lent-size, length-written}
+use Rattle.env_writer.proofs.WritingRecords.{Within, within, lent-marked, length-written}
 use Rattle.env_writer.proofs.put_variable.Statement.{statement}
 use Rattle.env_writer.proofs.put_variable.Tie as tie
 
@@ -38,67 +39,64 @@ cast-out c = omega (arith, good (c .before .before .before .before .before))
 slice-write-out : tie.Need-slice-write-out
 slice-write-out c = omega (arith, room (c .before .before .before .before .before))
 
-sub-copy-escaped : tie.Need-sub-copy-escaped
-sub-copy-escaped c = search needs
+sub-put-marked : tie.Need-sub-put-marked
+sub-put-marked c = search needs
 
-part-copy-escaped-start : tie.Need-part-copy-escaped-start
-part-copy-escaped-start c = search needs
+part-put-marked-start : tie.Need-part-put-marked-start
+part-put-marked-start c = search needs
 
-part-copy-escaped-end : tie.Need-part-copy-escaped-end
-part-copy-escaped-end c = omega (arith, good (c .before .before .before .before .before))
+part-put-marked-end : tie.Need-part-put-marked-end
+part-put-marked-end c = good (c .before .before .before .before .before) .name
 
-add-copy-escaped : tie.Need-add-copy-escaped
-add-copy-escaped c = search needs
+add-put-marked : tie.Need-add-put-marked
+add-put-marked c = search needs
 
-copy-escaped-requires : tie.Need-copy-escaped-requires
-copy-escaped-requires c κs =
-    let s = c .before .before .before .before .before .before .before in
-    let name = lent-size (s .args .bytes .now) (s .args .v .«name_at») (s .args .v .«name_length») in
-    simp length-set (omega (arith, room s, name))
+put-marked-requires : tie.Need-put-marked-requires
+put-marked-requires c κs = search needs
 
 -- the name stands behind the kind
-named : (c : tie.After-copy-escaped)
+named : (c : tie.After-put-marked)
     → let s = c .before .before .before .before .before .before .before .before in
-    (c .copy-escaped .result ≡ s .args .at + 1 + length (name s))
-    × (c .copy-escaped .last .1 .0 ≡ overwrite (set (s .args .out .now) (s .args .at) (s .args .v .kind)) (s .args .at + 1) (name s))
+    (c .put-marked .result ≡ s .args .at + 1 + length (name s))
+    × (c .put-marked .last .1 .1 .1 .1 .0 ≡ overwrite (set (s .args .out .now) (s .args .at) (s .args .v .kind)) (s .args .at + 1) (name s))
 named c =
     let s = c .before .before .before .before .before .before .before .before in
-    rw (lent-part (s .args .bytes .now) (s .args .v .«name_at») (s .args .v .«name_length»)) at (c .copy-escaped .ensures)
+    let bytes = s .args .bytes .now in
+    let v = s .args .v in
+    let opened = set (s .args .out .now) (s .args .at) (v .kind) in
+    let fits : s .args .at + 1 + length (name s) ≤ length opened = simp length-set (omega (arith, room s)) in
+    put-whole ESC 0 3 _ opened (s .args .at + 1) (name s) (lent-marked bytes (v .«name_at») (v .«name_length»)) fits (c .put-marked .ensures)
 
-kept : (c : tie.After-copy-escaped)
-    → length (c .copy-escaped .last .1 .0) ≡ length (c .before .before .before .before .before .before .before .before .args .out .now)
-kept c = c .copy-escaped .kept .1 .0 ∙ simp length-set
+kept : (c : tie.After-put-marked)
+    → length (c .put-marked .last .1 .1 .1 .1 .0) ≡ length (c .before .before .before .before .before .before .before .before .args .out .now)
+kept c = c .put-marked .kept .1 .1 .1 .1 .0 ∙ simp length-set
 
 slice-write-out-2 : tie.Need-slice-write-out-2
 slice-write-out-2 c =
     let n = c .before .before in
     omega (arith, room (n .before .before .before .before .before .before .before .before), named n .0, kept n)
 
-sub-copy-escaped-2 : tie.Need-sub-copy-escaped-2
-sub-copy-escaped-2 c = search needs
+sub-put-marked-2 : tie.Need-sub-put-marked-2
+sub-put-marked-2 c = search needs
 
-part-copy-escaped-start-2 : tie.Need-part-copy-escaped-start-2
-part-copy-escaped-start-2 c = search needs
+part-put-marked-start-2 : tie.Need-part-put-marked-start-2
+part-put-marked-start-2 c = search needs
 
-part-copy-escaped-end-2 : tie.Need-part-copy-escaped-end-2
-part-copy-escaped-end-2 c = omega (arith, good (c .before .before .before .before .before .before .before .before .before .before))
+part-put-marked-end-2 : tie.Need-part-put-marked-end-2
+part-put-marked-end-2 c = good (c .before .before .before .before .before .before .before .before .before .before) .value
 
-add-copy-escaped-2 : tie.Need-add-copy-escaped-2
-add-copy-escaped-2 c =
+add-put-marked-2 : tie.Need-add-put-marked-2
+add-put-marked-2 c =
     let n = c .before .before .before .before in
     omega (arith, room (n .before .before .before .before .before .before .before .before), named n .0)
 
-copy-escaped-requires-2 : tie.Need-copy-escaped-requires-2
-copy-escaped-requires-2 c κs =
-    let n = c .before .before .before .before in
-    let s = n .before .before .before .before .before .before .before .before in
-    let value = lent-size (s .args .bytes .now) (s .args .v .«value_at») (s .args .v .«value_length») in
-    simp length-set (omega (arith, room s, named n .0, kept n, value))
+put-marked-requires-2 : tie.Need-put-marked-requires-2
+put-marked-requires-2 c κs = search needs
 
 same-length : tie.Need-same-length
 same-length c =
     let n = c .before .before .before .before .before .before .before in
-    c .before .before .copy-escaped2 .kept .1 .0 ∙ simp length-set (kept n)
+    c .before .before .put-marked2 .kept .1 .1 .1 .1 .0 ∙ simp length-set (kept n)
 
 returns : tie.Need-returns
 unfolding writtenVariable
@@ -106,8 +104,11 @@ returns c =
     let n = c .before .before .before .before .before .before .before in
     let s = n .before .before .before .before .before .before .before .before in
     let v = s .args .v in
-    let k = n .copy-escaped .result in
-    let last = rw (lent-part (s .args .bytes .now) (v .«value_at») (v .«value_length»)) at (c .before .before .copy-escaped2 .ensures) in (
+    let k = n .put-marked .result in
+    let before = set (n .put-marked .last .1 .1 .1 .1 .0) k VALUE in
+    let fits : k + 1 + length (value s) ≤ length before = simp length-set (omega (arith, room s, named n .0, kept n)) in
+    let same = lent-marked (s .args .bytes .now) (v .«value_at») (v .«value_length») in
+    let last = put-whole ESC 0 3 _ before (k + 1) (value s) same fits (c .before .before .put-marked2 .ensures) in (
       omega (arith, last .0, named n .0, length-written (s .args .bytes .now) v),
       last .1 ∙ ap (λ l. overwrite (set l k VALUE) (k + 1) (value s)) (named n .1)
           ∙ stored-variable (s .args .out .now) (s .args .at) k (v .kind) (name s) (value s) (named n .0) (omega (arith, room s, named n .0)),
@@ -121,16 +122,16 @@ put-variable-spec =
     add-value-end
     cast-out
     slice-write-out
-    sub-copy-escaped
-    part-copy-escaped-start
-    part-copy-escaped-end
-    add-copy-escaped
-    copy-escaped-requires
+    sub-put-marked
+    part-put-marked-start
+    part-put-marked-end
+    add-put-marked
+    put-marked-requires
     slice-write-out-2
-    sub-copy-escaped-2
-    part-copy-escaped-start-2
-    part-copy-escaped-end-2
-    add-copy-escaped-2
-    copy-escaped-requires-2
+    sub-put-marked-2
+    part-put-marked-start-2
+    part-put-marked-end-2
+    add-put-marked-2
+    put-marked-requires-2
     same-length
     returns)

@@ -7,10 +7,9 @@ use lib.ListN.{length, length-set}
 use borrow.Author.Needs.{needs}
 use borrow.Author.Tests.{not-true, not-false}
 use Rattle.env.specs.Variable.{isFirst, variableLimit, repeated}
-use Rattle.env.specs.Write.{nameless, writtenVariables}
+use Rattle.env.specs.Write.{nameless}
 use Rattle.env.specs.Numbers.{held, placed}
-use Rattle.octets.proofs.Overwrite.{overwrite-cons}
-use Rattle.env_writer.proofs.WritingAnswer.{not-first, not-placed, no-name, too-many, twice, too-long, no-space, wrote}
+use Rattle.env_writer.proofs.WritingAnswer.{not-first, not-placed, no-name, too-many, twice, too-long, no-space, space, wrote}
 use Rattle.env_writer.proofs.write.Statement.{statement}
 use Rattle.env_writer.proofs.write.Tie as tie
 
@@ -77,7 +76,7 @@ returns-5 c =
     let n = c .before .before .before in
     let p = n .before .before in
     let a = start₂ p .args in
-    twice (a .first) (a .bytes .now) (a .numbers .now) (a .out .now) (begins (p .before .before)) (good p) (named n) (omega arith)
+    twice (a .first) (a .bytes .now) (a .numbers .now) (a .out .now) (begins (p .before .before)) (good p) (named n) (c .before .before .if4 .left)
     (sym (c .before .repeats .ensures) ∙ c .if5 .taken)
 
 -- all that is held against the records is, perhaps, the payload's length
@@ -96,7 +95,7 @@ cleared c =
       begins = begins (p .before .before);
       good = good p;
       named = named n;
-      few = omega arith;
+      few = c .before .before .if4 .left;
       distinct = sym (c .before .repeats .ensures) ∙ c .if5 .left;
     }
 
@@ -109,7 +108,7 @@ returns-6 c =
     let a = start₅ d .args in
     let k = cleared d in
     too-long (a .first) (a .bytes .now) (a .numbers .now) (a .out .now) (k .begins) (k .good) (k .named) (k .few) (k .distinct)
-    (omega (arith, c .before .measure .ensures))
+    (c .before .measure .result) (c .before .measure .ensures) (omega arith)
 
 returns-7 : tie.Need-returns-7
 returns-7 c =
@@ -117,28 +116,33 @@ returns-7 c =
     let a = start₅ (m .before) .args in
     let k = cleared (m .before) in
     no-space (a .first) (a .bytes .now) (a .numbers .now) (a .out .now) (k .begins) (k .good) (k .named) (k .few) (k .distinct)
-    (omega (arith, m .measure .ensures)) (omega (arith, m .measure .ensures))
+    (m .measure .result) (m .measure .ensures) (c .before .if6 .left) (omega arith)
 
 slice-write-out : tie.Need-slice-write-out
 slice-write-out c = search needs
 
 put-all-requires : tie.Need-put-all-requires
 put-all-requires c κs =
-    let m = c .before .before .before in
-    (cleared (m .before) .good, simp length-set (omega (arith, m .measure .ensures)))
+    let t = c .before in
+    let m = t .before .before in
+    let a = start₅ (m .before) .args in
+    let k = cleared (m .before) in (
+      k .good,
+      space (a .first) (a .bytes .now) (a .numbers .now) (a .out .now) (k .begins) (k .good) (k .named) (k .few) (k .distinct)
+          (m .measure .result) (m .measure .ensures) (t .before .if6 .left) (t .if7 .left),
+    )
 
 same-length : tie.Need-same-length
 same-length c = c .before .before .put-all .kept .1 .1 .0 ∙ simp length-set
 
 returns-8 : tie.Need-returns-8
 returns-8 c =
-    let m = c .before .before .before .before .before .before in
+    let t = c .before .before .before .before in
+    let m = t .before .before in
     let a = start₅ (m .before) .args in
     let k = cleared (m .before) in
-    let variables = writtenVariables (held (a .bytes .now) (a .numbers .now)) in
     wrote (a .first) (a .bytes .now) (a .numbers .now) (a .out .now) (k .begins) (k .good) (k .named) (k .few) (k .distinct)
-    (omega (arith, m .measure .ensures)) (omega (arith, m .measure .ensures)) (omega (arith, m .measure .ensures))
-    (c .before .before .put-all .ensures ∙ overwrite-cons (a .out .now) 0 (a .first) variables (omega (arith, m .measure .ensures)))
+    (m .measure .result) (m .measure .ensures) (t .before .if6 .left) (t .if7 .left) (c .before .before .put-all .ensures)
 
 pub write-spec : {M : Type 1} → statement M
 write-spec =

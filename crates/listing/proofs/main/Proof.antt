@@ -1,7 +1,7 @@
 -- `listing::main` is safe: what `telnet_listing::list` says that it wrote lies within the buffer. Assumes nothing.
 use mathlib.Core.Path.{sym}
 use lib.Seq.{length-take-le}
-use Rattle.telnet_listing.proofs.Placing.{wrote-within}
+use Rattle.telnet_line.proofs.Placing.{wrote-within}
 use borrow.Author.Needs.{needs}
 use Rattle.listing.proofs.main.Statement.{statement}
 use Rattle.listing.proofs.main.Tie as tie

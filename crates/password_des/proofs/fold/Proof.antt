@@ -30,7 +30,17 @@ folded-byte-requires-8 c κs = search needs
 
 returns : tie.Need-returns
 unfolding folded
-returns c = cc
+returns c =
+    rw (
+      c .folded-byte8 .ensures,
+      c .before .folded-byte7 .ensures,
+      c .before .before .folded-byte6 .ensures,
+      c .before .before .before .folded-byte5 .ensures,
+      c .before .before .before .before .folded-byte4 .ensures,
+      c .before .before .before .before .before .folded-byte3 .ensures,
+      c .before .before .before .before .before .before .folded-byte2 .ensures,
+      c .before .before .before .before .before .before .before .folded-byte .ensures,
+    )
 
 pub fold-spec : {M : Type 1} → statement M
 fold-spec =

@@ -1,4 +1,4 @@
--- `run_des::run` is safe and ends. Assumes nothing.
+-- `run_des::run` is safe and ends. The measure is `length lines / 34 - i`. Assumes nothing.
 use Prim.Native.Nat.{_-_, _/_, _≤_}
 use lib.ListN.{length}
 use borrow.Author.Needs.{needs}

@@ -1,4 +1,4 @@
--- `run_sha1::main` is safe and ends: the loop goes through the lengths. Assumes nothing.
+-- `run_sha1::main` is safe and ends: the loop goes through the lengths. The measure is `16 - k`. Assumes nothing.
 use Prim.Native.Nat.{_-_, _≤_}
 use borrow.Author.Needs.{needs}
 use Rattle.run_sha1.proofs.main.Statement.{statement}
@@ -10,32 +10,32 @@ Inv-loop k₀ k = k ≤ 16
 abbrev μ-loop : tie.MeasureT-loop
 μ-loop k₀ k = 16 - k
 
-slice-aggregate-show : tie.Need-slice-aggregate-show Inv-loop μ-loop
-slice-aggregate-show c = search needs
+slice-aggregate-say : tie.Need-slice-aggregate-say Inv-loop μ-loop
+slice-aggregate-say c = search needs
 
-show-requires : tie.Need-show-requires Inv-loop μ-loop
-show-requires c κs = search needs
+say-requires : tie.Need-say-requires Inv-loop μ-loop
+say-requires c κs = search needs
 
-slice-aggregate-show-2 : tie.Need-slice-aggregate-show-2 Inv-loop μ-loop
-slice-aggregate-show-2 c = search needs
+slice-aggregate-say-2 : tie.Need-slice-aggregate-say-2 Inv-loop μ-loop
+slice-aggregate-say-2 c = search needs
 
-show-requires-2 : tie.Need-show-requires-2 Inv-loop μ-loop
-show-requires-2 c κs = search needs
+say-requires-2 : tie.Need-say-requires-2 Inv-loop μ-loop
+say-requires-2 c κs = search needs
 
-show-million-requires : tie.Need-show-million-requires Inv-loop μ-loop
-show-million-requires c κs = search needs
+say-million-requires : tie.Need-say-million-requires Inv-loop μ-loop
+say-million-requires c κs = search needs
 
 loop-holds : tie.Need-loop-holds Inv-loop μ-loop
 loop-holds c = search needs
 
-mul-show-edge : tie.Need-mul-show-edge Inv-loop μ-loop
-mul-show-edge c = search needs
+mul-say-edge : tie.Need-mul-say-edge Inv-loop μ-loop
+mul-say-edge c = search needs
 
-array-read-show-edge : tie.Need-array-read-show-edge Inv-loop μ-loop
-array-read-show-edge c = search needs
+array-read-say-edge : tie.Need-array-read-say-edge Inv-loop μ-loop
+array-read-say-edge c = search needs
 
-show-edge-requires : tie.Need-show-edge-requires Inv-loop μ-loop
-show-edge-requires c κs = search needs
+say-edge-requires : tie.Need-say-edge-requires Inv-loop μ-loop
+say-edge-requires c κs = search needs
 
 add-k : tie.Need-add-k Inv-loop μ-loop
 add-k c = search needs
@@ -55,15 +55,15 @@ main-spec =
     (tie.spec
     Inv-loop
     μ-loop
-    slice-aggregate-show
-    show-requires
-    slice-aggregate-show-2
-    show-requires-2
-    show-million-requires
+    slice-aggregate-say
+    say-requires
+    slice-aggregate-say-2
+    say-requires-2
+    say-million-requires
     loop-holds
-    mul-show-edge
-    array-read-show-edge
-    show-edge-requires
+    mul-say-edge
+    array-read-say-edge
+    say-edge-requires
     add-k
     loop-less
     loop-again

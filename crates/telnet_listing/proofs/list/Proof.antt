@@ -3,9 +3,10 @@ use mathlib.Core.Path.{sym, ap, ap₂, _∙_}
 use lib.ListN.{length}
 use borrow.Author.Needs.{needs}
 use Rattle.octets.specs.Lent.{outcome}
-use Rattle.telnet_listing.specs.declared.Listed.the-variants.{Wrote, Refused}
+use Rattle.telnet_line.specs.declared.Listed.the-variants.{Wrote, Refused}
 use Rattle.telnet_listing.specs.Listing.{listing}
-use Rattle.telnet_listing.proofs.Placing.{given-fits, given-refused, wrote-fits, refused-past}
+use Rattle.telnet_line.proofs.Placing.{given-fits, given-refused}
+use Rattle.telnet_listing.proofs.Sized.{wrote-fits, refused-past}
 use Rattle.telnet_listing.proofs.list.Statement.{statement}
 use Rattle.telnet_listing.proofs.list.Tie as tie
 

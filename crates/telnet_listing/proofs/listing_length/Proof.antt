@@ -5,9 +5,10 @@ use Prim.Native.Nat.{_+_, _-_, _≤_}
 use native.Mathlib.Omega.{arith}
 use lib.ListN.{length}
 use borrow.Author.Needs.{needs}
-use Rattle.telnet_listing.specs.declared.Listed.the-variants.{Wrote}
+use Rattle.telnet_line.specs.declared.Listed.the-variants.{Wrote}
 use Rattle.telnet_listing.specs.Listing.{listing}
-use Rattle.telnet_listing.proofs.Placing.{sized-fits, sized-refused}
+use Rattle.telnet_line.proofs.Few.{text-length}
+use Rattle.telnet_listing.proofs.Sized.{sized-fits, sized-refused}
 use Rattle.telnet_listing.proofs.Lines.{linesAt, lines-all, turn-length, further}
 use Rattle.telnet_listing.proofs.listing_length.Statement.{statement}
 use Rattle.telnet_listing.proofs.listing_length.Tie as tie
@@ -25,8 +26,8 @@ loop-holds c = (omega arith, omega arith, omega (arith, ap length (lines-all (c 
 look-requires : tie.Need-look-requires Inv-loop μ-loop
 look-requires c κs = search needs
 
-line-length-requires : tie.Need-line-length-requires Inv-loop μ-loop
-line-length-requires c κs = search needs
+line-text-requires : tie.Need-line-text-requires Inv-loop μ-loop
+line-text-requires c κs = search needs
 
 sub-if1 : tie.Need-sub-if1 Inv-loop μ-loop
 sub-if1 c = search needs
@@ -37,7 +38,7 @@ returns c =
     let l = b .before .loop in
     let a = b .before .before .before .args in
     let t = turn-length (a .s .now) (l .i) (l .inv .0) (b .look .ensures) refl in
-    sym (sized-refused (listing (a .s .now)) (a .room) (omega (arith, t, c .before .line-length .ensures)))
+    sym (sized-refused (listing (a .s .now)) (a .room) (omega (arith, t, text-length _ (c .before .line-text .ensures))))
 
 add-total : tie.Need-add-total Inv-loop μ-loop
 add-total c = search needs
@@ -59,7 +60,7 @@ loop-again c =
     let s = b .before .before .before .args .s .now in
     let g = c .before .answer .given .1 in
     let t = turn-length s (l .i) (l .inv .0) (b .look .ensures) g in
-    (further s (l .i) (l .inv .0) (b .look .ensures) g .1, omega arith, omega (arith, t, n .line-length .ensures))
+    (further s (l .i) (l .inv .0) (b .look .ensures) g .1, omega arith, omega (arith, t, text-length _ (n .line-text .ensures)))
 
 enum-told : tie.Need-enum-told Inv-loop μ-loop
 enum-told c = search needs
@@ -71,7 +72,7 @@ returns-2 c =
     let l = b .before .loop in
     let a = b .before .before .before .args in
     let t = turn-length (a .s .now) (l .i) (l .inv .0) (b .look .ensures) (c .enum-told .given .1) in
-    let all : l .total + n .line-length .result ≡ length (listing (a .s .now)) = omega (arith, t, n .line-length .ensures) in
+    let all : l .total + n .line-text .result .length ≡ length (listing (a .s .now)) = omega (arith, t, text-length _ (n .line-text .ensures)) in
     ap Wrote all ∙ sym (sized-fits (listing (a .s .now)) (a .room) (omega (arith, all)))
 
 enum-told-2 : tie.Need-enum-told-2 Inv-loop μ-loop
@@ -84,7 +85,7 @@ returns-3 c =
     let l = b .before .loop in
     let a = b .before .before .before .args in
     let t = turn-length (a .s .now) (l .i) (l .inv .0) (b .look .ensures) (c .enum-told2 .given .1) in
-    let all : l .total + n .line-length .result ≡ length (listing (a .s .now)) = omega (arith, t, n .line-length .ensures) in
+    let all : l .total + n .line-text .result .length ≡ length (listing (a .s .now)) = omega (arith, t, text-length _ (n .line-text .ensures)) in
     ap Wrote all ∙ sym (sized-fits (listing (a .s .now)) (a .room) (omega (arith, all)))
 
 pub listing-length-spec : {M : Type 1} → statement M
@@ -95,7 +96,7 @@ listing-length-spec =
     μ-loop
     loop-holds
     look-requires
-    line-length-requires
+    line-text-requires
     sub-if1
     returns
     add-total

@@ -1,9 +1,7 @@
 -- `telnet_writer::write_run` meets its contract. Assumes nothing.
-use native.Mathlib.Omega.{arith}
 use Rattle.telnet.specs.Event.{run}
-use Rattle.telnet.specs.Write.{written}
 use Rattle.telnet_writer.specs.Promise.{unwritable}
-use Rattle.telnet_writer.proofs.Writing.{run-empty, run-full, not-written, not-fitting, fitting}
+use Rattle.telnet_writer.proofs.Writing.{run-empty, not-written, run-not-fitting, run-fitting}
 use borrow.Author.Needs.{needs}
 use Rattle.telnet_writer.proofs.write_run.Statement.{statement}
 use Rattle.telnet_writer.proofs.write_run.Tie as tie
@@ -14,36 +12,29 @@ returns c =
     let a = c .before .before .before .args in
     not-written (run (a .bytes .now)) (a .out .now) (run-empty (a .bytes .now) (c .if1 .taken))
 
-doubled-length-requires : tie.Need-doubled-length-requires
-doubled-length-requires c κs = search needs
-
-returns-2 : tie.Need-returns-2
-unfolding written
-returns-2 c =
-    let a = c .before .before .before .before .before .args in
-    not-fitting (run (a .bytes .now)) (a .out .now) (run-full (a .bytes .now) (c .before .before .if1 .left)) (omega arith)
-
-copy-doubled-requires : tie.Need-copy-doubled-requires
-copy-doubled-requires c κs = search needs
+put-marked-requires : tie.Need-put-marked-requires
+put-marked-requires c κs = search needs
 
 same-length : tie.Need-same-length
 same-length c = search needs
 
+returns-2 : tie.Need-returns-2
+returns-2 c =
+    let p = c .before .before .before in
+    let full = p .before .before in
+    let a = full .before .before .before .args in
+    run-not-fitting (a .bytes .now) (a .out .now) (full .if1 .left) (p .put-marked .result) _ (p .put-marked .ensures) (c .if2 .taken)
+
+same-length-2 : tie.Need-same-length-2
+same-length-2 c = search needs
+
 returns-3 : tie.Need-returns-3
-unfolding written
 returns-3 c =
-    let a = c .before .before .before .before .before .before .before .before .before .args in
-    let n = c .before .before .before .before .before .doubled-length in
-    let full = run-full (a .bytes .now) (c .before .before .before .before .before .before .if1 .left) in
-    fitting (run (a .bytes .now)) (a .out .now) full (omega arith) (n .ensures) (c .before .before .copy-doubled .ensures)
+    let p = c .before .before .before in
+    let full = p .before .before in
+    let a = full .before .before .before .args in
+    run-fitting (a .bytes .now) (a .out .now) (full .if1 .left) (p .put-marked .result) _ (p .put-marked .ensures) (c .if2 .left)
 
 pub write-run-spec : {M : Type 1} → statement M
 write-run-spec =
-    tie.close
-    (tie.spec
-    returns
-    doubled-length-requires
-    returns-2
-    copy-doubled-requires
-    same-length
-    returns-3)
+    tie.close (tie.spec returns put-marked-requires same-length returns-2 same-length-2 returns-3)

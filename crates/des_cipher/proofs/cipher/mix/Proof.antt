@@ -1,4 +1,4 @@
--- `des_cipher::cipher::mix` meets its contract: the loop adds the part of one box after the other. Assumes nothing.
+-- `des_cipher::cipher::mix` meets its contract: the loop adds the part of one box after the other. The measure is `8 - j`. Assumes nothing.
 use mathlib.Core.Path.{_≡_, ap, ap₂, _∙_}
 use Prim.Native.Nat.{_-_, _*_, _/_, _^_, _≤_, _<_}
 use native.Mathlib.Omega.{arith}

@@ -1,6 +1,6 @@
 -- `option_rules::Side::request_off` meets its contract: one cell of its column after the other. Assumes nothing.
 use mathlib.Core.Path.{_∙_}
-use Rattle.option_rules.proofs.Chosen.{by-table, by-none}
+use Rattle.option_rules.proofs.Chosen.{by-none, at-cell}
 use borrow.Author.Needs.{needs}
 use Rattle.option_rules.proofs.Side.request_off.Statement.{statement}
 use Rattle.option_rules.proofs.Side.request_off.Tie as tie
@@ -13,9 +13,8 @@ cell-requires c κs = search needs
 
 returns : tie.Need-returns
 returns c =
-    let a = c .before .before .before .args in
-    let f = c .before .before .carried in
-    c .cell .ensures ∙ rw (by-none (a .option) (f .result) (f .ensures) (c .before .if1 .taken))
+    let k = c .before .before in
+    c .cell .ensures ∙ rw (by-none (k .before .args .option) _ (k .carried .ensures) (c .before .if1 .taken))
 
 enum-told : tie.Need-enum-told
 enum-told c = search needs
@@ -55,45 +54,39 @@ cell-requires-7 c κs = search needs
 
 returns-2 : tie.Need-returns-2
 returns-2 c =
-    let a = c .before .before .before .before .before .args in
-    let f = c .before .before .before .before .carried in
-    let r = by-table (a .option) (f .result) (f .ensures) (c .before .before .before .if1 .left) in
-    c .cell2 .ensures ∙ rw (r, c .before .enum-told .given .1)
+    let k = c .before .before .before in
+    at-cell (λ r. r .requestOff) (k .before .before .args .option) (k .before .carried .ensures) (k .if1 .left)
+    (c .before .enum-told .given .1) (c .cell2 .ensures)
 
 returns-3 : tie.Need-returns-3
 returns-3 c =
-    let a = c .before .before .before .before .before .args in
-    let f = c .before .before .before .before .carried in
-    let r = by-table (a .option) (f .result) (f .ensures) (c .before .before .before .if1 .left) in
-    c .cell3 .ensures ∙ rw (r, c .before .enum-told2 .given .1)
+    let k = c .before .before .before in
+    at-cell (λ r. r .requestOff) (k .before .before .args .option) (k .before .carried .ensures) (k .if1 .left)
+    (c .before .enum-told2 .given .1) (c .cell3 .ensures)
 
 returns-4 : tie.Need-returns-4
 returns-4 c =
-    let a = c .before .before .before .before .before .args in
-    let f = c .before .before .before .before .carried in
-    let r = by-table (a .option) (f .result) (f .ensures) (c .before .before .before .if1 .left) in
-    c .cell4 .ensures ∙ rw (r, c .before .enum-told3 .given .1)
+    let k = c .before .before .before in
+    at-cell (λ r. r .requestOff) (k .before .before .args .option) (k .before .carried .ensures) (k .if1 .left)
+    (c .before .enum-told3 .given .1) (c .cell4 .ensures)
 
 returns-5 : tie.Need-returns-5
 returns-5 c =
-    let a = c .before .before .before .before .before .args in
-    let f = c .before .before .before .before .carried in
-    let r = by-table (a .option) (f .result) (f .ensures) (c .before .before .before .if1 .left) in
-    c .cell5 .ensures ∙ rw (r, c .before .enum-told4 .given .1)
+    let k = c .before .before .before in
+    at-cell (λ r. r .requestOff) (k .before .before .args .option) (k .before .carried .ensures) (k .if1 .left)
+    (c .before .enum-told4 .given .1) (c .cell5 .ensures)
 
 returns-6 : tie.Need-returns-6
 returns-6 c =
-    let a = c .before .before .before .before .before .args in
-    let f = c .before .before .before .before .carried in
-    let r = by-table (a .option) (f .result) (f .ensures) (c .before .before .before .if1 .left) in
-    c .cell6 .ensures ∙ rw (r, c .before .enum-told5 .given .1)
+    let k = c .before .before .before in
+    at-cell (λ r. r .requestOff) (k .before .before .args .option) (k .before .carried .ensures) (k .if1 .left)
+    (c .before .enum-told5 .given .1) (c .cell6 .ensures)
 
 returns-7 : tie.Need-returns-7
 returns-7 c =
-    let a = c .before .before .before .before .before .args in
-    let f = c .before .before .before .before .carried in
-    let r = by-table (a .option) (f .result) (f .ensures) (c .before .before .before .if1 .left) in
-    c .cell7 .ensures ∙ rw (r, c .before .enum-told6 .given .1)
+    let k = c .before .before .before in
+    at-cell (λ r. r .requestOff) (k .before .before .args .option) (k .before .carried .ensures) (k .if1 .left)
+    (c .before .enum-told6 .given .1) (c .cell7 .ensures)
 
 pub request-off-spec : {M : Type 1} → statement M
 request-off-spec =

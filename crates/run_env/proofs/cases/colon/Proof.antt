@@ -1,4 +1,4 @@
--- `run_env::cases::colon` is safe and ends: what is left of the line falls. Assumes nothing.
+-- `run_env::cases::colon` is safe and ends: what is left of the line falls. The measure is `length line - i`. Assumes nothing.
 use Prim.Native.Nat.{_-_, _≤_}
 use lib.ListN.{length}
 use borrow.Author.Needs.{needs}

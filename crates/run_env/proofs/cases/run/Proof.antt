@@ -1,4 +1,4 @@
--- `run_env::cases::run` is safe and ends: what is left of the text falls. Assumes nothing.
+-- `run_env::cases::run` is safe and ends: what is left of the text falls. The measure is `length text - i`. Assumes nothing.
 use Prim.Native.Nat.{_-_, _≤_}
 use lib.ListN.{length}
 use borrow.Author.Needs.{needs}

@@ -1,4 +1,4 @@
--- `run_env::numerals::put_bytes` is safe and ends: what is left of the numbers falls. Assumes nothing.
+-- `run_env::numerals::put_bytes` is safe and ends: what is left of the numbers falls. The measure is `length words - i`. Assumes nothing.
 use mathlib.Core.Path.{_≡_}
 use Prim.Native.Nat.{_-_, _≤_}
 use lib.ListN.{length}

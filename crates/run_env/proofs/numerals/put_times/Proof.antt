@@ -1,4 +1,4 @@
--- `run_env::numerals::put_times` is safe and ends: what is left of the repetitions falls. Assumes nothing.
+-- `run_env::numerals::put_times` is safe and ends: what is left of the repetitions falls. The measure is `times - i`. Assumes nothing.
 use mathlib.Core.Path.{_≡_}
 use Prim.Native.Nat.{_-_, _≤_}
 use lib.ListN.{length}

@@ -1,4 +1,4 @@
--- `run_env::numerals::read_numbers` is safe and ends: what is left of the line falls. Assumes nothing.
+-- `run_env::numerals::read_numbers` is safe and ends: what is left of the line falls. The measure is `length line - i`. Assumes nothing.
 use mathlib.Core.Path.{_≡_}
 use Prim.Native.Nat.{_-_}
 use lib.ListN.{length}

@@ -1,4 +1,4 @@
--- `run_env::reads::say_variables` is safe and ends: what is left of the list falls. Assumes nothing.
+-- `run_env::reads::say_variables` is safe and ends: what is left of the list falls. The measure is `count - i`. Assumes nothing.
 use Prim.Native.Nat.{_-_, _≤_}
 use borrow.Author.Needs.{needs}
 use Rattle.run_env.proofs.reads.say_variables.Statement.{statement}

@@ -1,4 +1,4 @@
--- `run_env::show::numbers_are` is safe and ends: what is left of the numbers falls. Assumes nothing.
+-- `run_env::show::numbers_are` is safe and ends: what is left of the numbers falls. The measure is `length numbers - i`. Assumes nothing.
 use Prim.Native.Nat.{_-_, _≤_}
 use lib.ListN.{length}
 use borrow.Author.Needs.{needs}

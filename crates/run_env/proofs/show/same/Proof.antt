@@ -1,4 +1,4 @@
--- `run_env::show::same` is safe and ends: what is left of both falls. Assumes nothing.
+-- `run_env::show::same` is safe and ends: what is left of both falls. The measure is `length one - i`. Assumes nothing.
 use Prim.Native.Nat.{_-_, _≤_}
 use lib.ListN.{length}
 use borrow.Author.Needs.{needs}

@@ -1,4 +1,4 @@
--- `run_env::show::say_bytes` is safe and ends: what is left of the bytes falls. Assumes nothing.
+-- `run_env::show::say_bytes` is safe and ends: what is left of the bytes falls. The measure is `length bytes - i`. Assumes nothing.
 use Prim.Native.Nat.{_-_, _≤_}
 use lib.ListN.{length}
 use borrow.Author.Needs.{needs}

@@ -1,4 +1,5 @@
--- `sha1::compress::loaded` meets its contract: the words in the array with those still in the block are all. Assumes nothing.
+-- `sha1::compress::loaded` meets its contract: the words in the array with those still in the block are all. The measure is `16 - t`. Assumes
+-- nothing.
 use mathlib.Core.Path.{_≡_, refl, sym, _∙_, ap}
 use mathlib.Core.List.{_++_, append-nil}
 use Prim.Native.Nat.{_-_, _*_, _≤_}

@@ -1,5 +1,5 @@
--- `sha1::compress::scheduled` meets its contract: the words in the array, extended by those that are left, are the schedule.
--- Assumes nothing.
+-- `sha1::compress::scheduled` meets its contract: the words in the array, extended by those that are left, are the schedule. The measure is `80
+-- - t`. Assumes nothing.
 use mathlib.Core.Path.{_≡_, sym, _∙_}
 use Prim.Native.Nat.{suc, _+_, _-_, _≤_}
 use native.Mathlib.Omega.{arith}

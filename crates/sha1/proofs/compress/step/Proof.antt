@@ -30,7 +30,23 @@ rotate-left-32-requires-2 c κs = search needs
 
 returns : tie.Need-returns
 unfolding round
-returns c = cc
+returns c =
+    let s₄ = c .before in
+    let s₃ = s₄ .before in
+    let k = s₃ .before in
+    let s₂ = k .before in
+    let s₁ = s₂ .before in
+    let m = s₁ .before in
+    rw (
+      s₄ .sum4 .ensures,
+      s₃ .sum3 .ensures,
+      k .constant .ensures,
+      s₂ .sum2 .ensures,
+      s₁ .sum .ensures,
+      m .mix .ensures,
+      m .before .rotate-left-32 .ensures,
+      c .rotate-left-322 .ensures,
+    )
 
 pub step-spec : {M : Type 1} → statement M
 step-spec =

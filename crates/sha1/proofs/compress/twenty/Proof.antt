@@ -1,4 +1,5 @@
--- `sha1::compress::twenty` meets its contract: the rounds that are left, from the words that are left, give the whole. Assumes nothing.
+-- `sha1::compress::twenty` meets its contract: the rounds that are left, from the words that are left, give the whole. The measure is `end - t`.
+-- Assumes nothing.
 use mathlib.Core.Path.{_≡_, refl}
 use native.Mathlib.Nat.{le-refl}
 use Prim.Native.Nat.{suc, _+_, _-_, _*_, _≤_}

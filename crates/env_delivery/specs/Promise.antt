@@ -1,0 +1,43 @@
+-- What the reader answers, and what it leaves in the buffer and the list that it is lent: for every input and room, with the refusals in the
+-- specification's order, 4 last.
+use Prim.Native.Nat.{ℕ, _/_}
+use mathlib.Core.List.{List}
+use lib.Dec.{ltb}
+use lib.ListN.{length}
+use Rattle.env_delivery.specs.declared.Answer.{Answer}
+use Rattle.env_delivery.specs.declared.Answer.the-variants.{Read, Refused}
+use Rattle.env.specs.Variable.{repeated}
+use Rattle.env.specs.Read.{Reading, says, notRead, readingOf}
+use Rattle.env.specs.Numbers.{packed, recorded, held}
+use Rattle.refusal.specs.Refusal.{noRoom, repeatedVariable}
+use Rattle.octets.specs.Choice.{if_then_else_}
+use Rattle.octets.specs.Lent.{overwrite}
+
+-- an answer with a buffer and a list of records as they are left
+pub record Delivery : Type 0 where
+  pub answer : Answer
+  pub bytes : List ℕ
+  pub numbers : List ℕ
+
+abbrev pub delivery : Answer → List ℕ → List ℕ → Delivery
+delivery a b n = record { answer = a; bytes = b; numbers = n }
+
+-- a reading, with names and values put into the buffer and their places into the list
+unfoldable pub delivered : Reading → List ℕ → List ℕ → Delivery
+delivered (notRead n) bytes numbers = delivery (Refused n) bytes numbers
+delivered (says first vs) bytes numbers =
+    if ltb (length bytes) (length (packed vs)) then delivery (Refused noRoom) bytes numbers else
+    if ltb (length numbers) (length (recorded 0 vs)) then delivery (Refused noRoom) bytes numbers else
+    delivery (Read first (length vs) (length (packed vs))) (overwrite bytes 0 (packed vs)) (overwrite numbers 0 (recorded 0 vs))
+
+-- a payload, read
+abbrev pub readInto : List ℕ → List ℕ → List ℕ → Delivery
+readInto payload bytes numbers = delivered (readingOf payload) bytes numbers
+
+-- texts and records that were read, handed over unless a variable is there twice or the room is short
+unfoldable pub deliverRead : ℕ → List ℕ → List ℕ → List ℕ → List ℕ → Delivery
+deliverRead first texts records bytes numbers =
+    if repeated (held texts records) then delivery (Refused repeatedVariable) bytes numbers else
+    if ltb (length bytes) (length texts) then delivery (Refused noRoom) bytes numbers else
+    if ltb (length numbers) (length records) then delivery (Refused noRoom) bytes numbers else
+    delivery (Read first (length records / 5) (length texts)) (overwrite bytes 0 texts) (overwrite numbers 0 records)

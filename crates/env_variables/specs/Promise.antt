@@ -1,0 +1,40 @@
+-- What `find_variables` answers, and what it leaves in the buffer and the list that it fills.
+use mathlib.Core.Path.{_≡_}
+use mathlib.Core.List.{List}
+use Prim.Native.Nat.{ℕ, _+_, _*_, _≤_}
+use lib.Dec.{ltb}
+use lib.ListN.{length}
+use Rattle.env_variables.specs.declared.Found.{Found as Answered}
+use Rattle.env_variables.specs.declared.Found.the-variants.{Variables, Fault}
+use Rattle.env.specs.Variable.{variableLimit}
+use Rattle.env.specs.Fields.{rowOf}
+use Rattle.env.specs.Read.{Found, variables, fault, variablesOf}
+use Rattle.env.specs.Numbers.{packed, recorded}
+use Rattle.refusal.specs.Refusal.{payloadTooLong}
+use Rattle.octets.specs.Choice.{if_then_else_}
+use Rattle.octets.specs.Lent.{overwrite}
+
+-- a buffer of texts and a list of records
+pub record Buffers : Type 0 where
+  pub bytes : List ℕ
+  pub numbers : List ℕ
+
+abbrev pub buffers : List ℕ → List ℕ → Buffers
+buffers b n = record { bytes = b; numbers = n }
+
+-- bytes and numbers that were put where buffer and list had room for them; the answer is how many variables there are now, and bytes
+pub record Stored (x ns : List ℕ) (count at k : ℕ) (before : Buffers) (r : Answered) (after : Buffers) : Type 0 where
+  pub answer : r ≡ Variables count (at + length x)
+  pub limit : count ≤ variableLimit
+  pub within : at + length x ≤ length (before .bytes)
+  pub texts : after .bytes ≡ overwrite (before .bytes) at x
+  pub records : after .numbers ≡ overwrite (before .numbers) (5 * k) ns
+
+-- variables from a place on, as records k and following; after a fault nothing is said of buffer and list
+unfoldable pub NameRead : Found → ℕ → ℕ → Buffers → Answered → Buffers → Type 0
+NameRead (fault n) at k before r after = r ≡ Fault n
+NameRead (variables vs) at k before r after = Stored (packed vs) (recorded at vs) (k + length vs) at k before r after
+
+-- the variables of what stands behind the first byte of a payload, or the first fault; more than 1,024 bytes are not looked at
+unfoldable pub foundIn : List ℕ → Found
+foundIn rest = if ltb 1024 (length rest) then fault payloadTooLong else variablesOf (rowOf rest)

@@ -1,0 +1,3 @@
+-- Definitions that only the contracts of private functions speak of.
+pub mod Texts
+pub mod Turns

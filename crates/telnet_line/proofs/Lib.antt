@@ -1,0 +1,4 @@
+pub mod Put
+pub mod Phrases
+pub mod Placing
+pub mod Few
