@@ -7,6 +7,7 @@ use Prim.Native.Nat.{ℕ}
 use lib.Dec.{T}
 use lib.ListN.{replicate}
 use Rattle.refusal.specs.Refusal.{cutShort, payloadTooLong, badCommand, notIsOrInfo, badHeaderLength}
+use Rattle.octets.specs.Ascii.{ascii}
 use Rattle.names.specs.Ebcdic.{ebcdicOf}
 use Rattle.password_des.specs.Des.{SHIFT-RESULT, userID, RDrSEQ}
 use Rattle.env.specs.Variable.{Variable, variable, IS, VAR}
@@ -72,7 +73,7 @@ AllHold (c ∷ cs) = Holds c × AllHold cs
 
 -- VAR A with a value of n letters A: written, 4 + n bytes
 abbrev pub lettersA : ℕ → List Variable
-lettersA n = variable VAR (0x41 ∷ []) (replicate n 0x41) ∷ []
+lettersA n = variable VAR (ascii "A") (replicate n 0x41) ∷ []
 
 -- 255 250 24, n letters A, 255 240
 abbrev pub subnegotiationOf : ℕ → List ℕ
@@ -96,9 +97,9 @@ printOfNothing = Read (record {
 abbrev pub lines : List Case
 lines =
     -- "password A gives DES key 28 2A 2A 2A 2A 2A 2A 2A"
-    desKey (0x41 ∷ []) 0x282A2A2A2A2A2A2A
+    desKey (ascii "A") 0x282A2A2A2A2A2A2A
     -- "USERNAME12 folds to 24 22 C5 99 15 01 D4 45"
-    ∷ folds (0x55 ∷ 0x53 ∷ 0x45 ∷ 0x52 ∷ 0x4E ∷ 0x41 ∷ 0x4D ∷ 0x45 ∷ 0x31 ∷ 0x32 ∷ []) 0x2422C5991501D445
+    ∷ folds (ascii "USERNAME12") 0x2422C5991501D445
     -- "server seed of eight FF gives RDrSEQ zero"
     ∷ rdrSeq 0xFFFFFFFFFFFFFFFF 0
     -- "value 01 02 03 is written 02 01 02 02 02 03"
