@@ -44,7 +44,7 @@ pub record Occurs (kind : ℕ) (name : List ℕ) (vs : List Variable) : Type 0 w
   pub same-kind : kind ≡ it .kind
   pub same-name : name ≡ it .name
 
--- One of some variables is of a kind and name where such a one occurs.
+-- The test finds a variable of a kind and name among some exactly where one occurs in them.
 abbrev pub AmongIsOccurs : Type 0
 AmongIsOccurs = (kind : ℕ) (name : List ℕ) (vs : List Variable) → T (among kind name vs) ↔ Occurs kind name vs
 

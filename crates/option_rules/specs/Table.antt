@@ -98,7 +98,7 @@ stepBy s (t send c) = record { side = t; number = 0; sends = Sends c }
 stepBy s (t note n) = record { side = t; number = n; sends = Nothing }
 stepBy s (refuse n) = record { side = s; number = n; sends = Nothing }
 
--- what a side gives that is told on or off, and one that is to request it
+-- what a side gives when it receives on or off, and when on or off is requested of it
 abbrev pub onReceive : (Side → Row) → Side → Bool → Command → Step
 onReceive rules s accepting on = stepBy s (rules s .receiveOn accepting)
 onReceive rules s accepting off = stepBy s (rules s .receiveOff)
