@@ -5,11 +5,10 @@ use mathlib.Core.Bool.{true, false}
 use mathlib.Core.List.{List, [], _∷_}
 use Prim.Native.Nat.{ℕ, _+_, _-_, _*_, _≤_, _<_}
 use native.Mathlib.Omega.{arith}
-use borrow.Author.Tests.{le-ltb}
 use lib.ListN.{length, getD, take, drop, length-take}
-use Rattle.env_variables.specs.declared.Found.{Found as Answered}
-use Rattle.env_variables.specs.declared.Found.the-variants.{Variables, Fault}
-use Rattle.env_variables.specs.Promise.{Buffers, NameRead, foundIn}
+use Rattle.env_reader.specs.declared.Found.{Found as Answered}
+use Rattle.env_reader.specs.declared.Found.the-variants.{Variables, Fault}
+use Rattle.env_reader.specs.near.Found.{Buffers, NameRead}
 use Rattle.env_delivery.specs.declared.Answer.the-variants.{Refused}
 use Rattle.env_delivery.specs.Promise.{delivery, delivered, readInto, deliverRead}
 use Rattle.env_delivery.proofs.Handing.{handed-these}
@@ -82,15 +81,11 @@ name-variables (variables vs) count used before r after is e =
 
 -- what the reader delivers, by what was found
 module _ (first : ℕ) (rest bytes numbers : List ℕ) where
-  found : length rest ≤ 1024 → foundIn rest ≡ variablesOf (rowOf rest)
-  unfolding foundIn
-  found h = rw (le-ltb 1024 (length rest) h)
-
-  pub fault-delivered : (n : ℕ) → length rest ≤ 1024 → foundIn rest ≡ fault n
+  pub fault-delivered : (n : ℕ) → variablesOf (rowOf rest) ≡ fault n
       → delivery (Refused n) bytes numbers ≡ delivered (distinct first (variablesOf (rowOf rest))) bytes numbers
   unfolding distinct delivered
-  fault-delivered n h e = ap (λ f. delivered (distinct first f) bytes numbers) (sym e ∙ found h)
+  fault-delivered n e = ap (λ f. delivered (distinct first f) bytes numbers) (sym e)
 
-  pub variables-delivered : (vs : List Variable) → length rest ≤ 1024 → foundIn rest ≡ variables vs
+  pub variables-delivered : (vs : List Variable) → variablesOf (rowOf rest) ≡ variables vs
       → deliverRead first (packed vs) (recorded 0 vs) bytes numbers ≡ delivered (distinct first (variablesOf (rowOf rest))) bytes numbers
-  variables-delivered vs h e = handed-these first vs bytes numbers ∙ ap (λ f. delivered (distinct first f) bytes numbers) (sym e ∙ found h)
+  variables-delivered vs e = handed-these first vs bytes numbers ∙ ap (λ f. delivered (distinct first f) bytes numbers) (sym e)

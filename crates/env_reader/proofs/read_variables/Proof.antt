@@ -17,7 +17,7 @@ returns : tie.Need-returns
 returns c =
     let a = c .before .before .before .before .before .before .before .before .before .args in
     let found = name-fault _ (c .before .n .given .0 .0) 0 0 _ _ _ (c .before .before .before .find-variables .ensures) (c .before .n .given .1) in
-    fault-delivered (a .first) (a .rest .now) (a .bytes .now) (a .numbers .now) _ (omega arith) found
+    fault-delivered (a .first) (a .rest .now) (a .bytes .now) (a .numbers .now) _ found
 
 enum-known-count : tie.Need-enum-known-count
 enum-known-count c = search needs
@@ -62,7 +62,7 @@ returns-2 : tie.Need-returns-2
 returns-2 c =
     let a = c .before .before .before .before .before .before .before .before .before .before .before .before .before .before .before .before .before .before .before .before .args in
     let all = name-variables _ _ _ _ _ _ (c .before .before .before .before .before .before .before .before .before .before .before .before .before .before .find-variables .ensures) (c .before .before .before .before .before .before .before .before .before .before .before .before .count .given .1) in
-    let whole = variables-delivered (a .first) (a .rest .now) (a .bytes .now) (a .numbers .now) (all .3 .all) (omega arith) (all .3 .those) in
+    let whole = variables-delivered (a .first) (a .rest .now) (a .bytes .now) (a .numbers .now) (all .3 .all) (all .3 .those) in
     c .before .before .before .before .hand-over .ensures ∙ rw (sub-zero, sub-zero, all .3 .texts, all .3 .records) whole
 
 pub read-variables-spec : {M : Type 1} → statement M

@@ -9,20 +9,20 @@ use native.Mathlib.Omega.{arith}
 use borrow.Author.Tests.{eqb-true, lt-ltb, le-ltb}
 use lib.Dec.{leb}
 use lib.ListN.{length, getD, drop, length-append}
-use Rattle.env_variables.specs.declared.Found.{Found as Answered}
-use Rattle.env_variables.specs.declared.Found.the-variants.{Variables, Fault}
-use Rattle.env_variables.specs.Promise.{Buffers, buffers, NameRead, foundIn}
-use Rattle.env_variables.specs.near.Texts.{givesValue, IsTaken}
-use Rattle.env_variables.specs.near.Turns.{fromName, Valued, valued, badValue, followed, fromValue, completed}
-use Rattle.env_variables.specs.near.Turns.{IsValue, ValueRead}
+use Rattle.env_reader.specs.declared.Found.{Found as Answered}
+use Rattle.env_reader.specs.declared.Found.the-variants.{Variables, Fault}
+use Rattle.env_reader.specs.near.Found.{Buffers, buffers, NameRead}
+use Rattle.env_reader.specs.near.Texts.{givesValue, IsTaken}
+use Rattle.env_reader.specs.near.Turns.{fromName, Valued, valued, badValue, followed, fromValue, completed}
+use Rattle.env_reader.specs.near.Turns.{IsValue, ValueRead}
 use Rattle.env_text.specs.declared.Text.{Text as Taken}
 use Rattle.env_text.specs.Text.{textOf, marked}
 use Rattle.env_text.proofs.Standing.{row-marked}
 use Rattle.env.specs.Variable.{variable, variableLimit, VAR, USERVAR, isKind}
 use Rattle.env.specs.Fields.{Text, text, broken, Field, nameField, valueField, row, rowOf, joins, stands, escapes, startsName, startsValue}
-use Rattle.env.specs.Read.{Found, variables, fault, addVariable, limited, whole, named, names, expectNoText, variablesOf}
+use Rattle.env.specs.Read.{Found, variables, fault, addVariable, limited, whole, named, names, expectNoText}
 use Rattle.env.specs.Numbers.{packed, recorded}
-use Rattle.refusal.specs.Refusal.{noVariable, badEscape, valueInValue, tooManyVariables, payloadTooLong}
+use Rattle.refusal.specs.Refusal.{noVariable, badEscape, valueInValue, tooManyVariables}
 use Rattle.env.proofs.Rows.{row-kind}
 use Rattle.env.proofs.Holding.{length-recorded}
 use Rattle.octets.specs.Lent.{overwrite}
@@ -256,12 +256,3 @@ value-turn kind at n k l bytes₀ bytes₁ numbers₀ t r bytes numbers is w h g
 pub value-fault : (found : Valued) (m kind at n k : ℕ) (before after : Buffers) → found ≡ badValue m → ValueRead found kind at n k before (Fault m) after
 unfolding ValueRead
 value-fault found m kind at n k before after e = rw e
-
--- what is found in a part that is too long, and in one that is not
-pub found-long : (l : List ℕ) → 1024 < length l → foundIn l ≡ fault payloadTooLong
-unfolding foundIn
-found-long l h = rw (lt-ltb 1024 (length l) h)
-
-pub found-short : (l : List ℕ) → length l ≤ 1024 → foundIn l ≡ fromName noVariable 0 (rowOf l)
-unfolding foundIn variablesOf
-found-short l h = rw (le-ltb 1024 (length l) h)

@@ -1,17 +1,13 @@
--- What `find_variables` answers, and what it leaves in the buffer and the list that it fills.
+-- What the name reader answers, and what it leaves in the buffer and the list that it fills.
 use mathlib.Core.Path.{_≡_}
 use mathlib.Core.List.{List}
 use Prim.Native.Nat.{ℕ, _+_, _*_, _≤_}
-use lib.Dec.{ltb}
 use lib.ListN.{length}
-use Rattle.env_variables.specs.declared.Found.{Found as Answered}
-use Rattle.env_variables.specs.declared.Found.the-variants.{Variables, Fault}
+use Rattle.env_reader.specs.declared.Found.{Found as Answered}
+use Rattle.env_reader.specs.declared.Found.the-variants.{Variables, Fault}
 use Rattle.env.specs.Variable.{variableLimit}
-use Rattle.env.specs.Fields.{rowOf}
-use Rattle.env.specs.Read.{Found, variables, fault, variablesOf}
+use Rattle.env.specs.Read.{Found, variables, fault}
 use Rattle.env.specs.Numbers.{packed, recorded}
-use Rattle.refusal.specs.Refusal.{payloadTooLong}
-use Rattle.octets.specs.Choice.{if_then_else_}
 use Rattle.octets.specs.Lent.{overwrite}
 
 -- a buffer of texts and a list of records
@@ -34,7 +30,3 @@ pub record Stored (x ns : List ℕ) (count at k : ℕ) (before : Buffers) (r : A
 unfoldable pub NameRead : Found → ℕ → ℕ → Buffers → Answered → Buffers → Type 0
 NameRead (fault n) at k before r after = r ≡ Fault n
 NameRead (variables vs) at k before r after = Stored (packed vs) (recorded at vs) (k + length vs) at k before r after
-
--- the variables of what stands behind the first byte of a payload, or the first fault; more than 1,024 bytes are not looked at
-unfoldable pub foundIn : List ℕ → Found
-foundIn rest = if ltb 1024 (length rest) then fault payloadTooLong else variablesOf (rowOf rest)

@@ -1,3 +1,4 @@
 -- Definitions that only the contracts of private functions speak of.
+pub mod Found
 pub mod Texts
 pub mod Turns
