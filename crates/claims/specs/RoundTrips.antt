@@ -2,7 +2,7 @@
 use Rattle.telnet.specs.Theorems as Telnet
 use Rattle.env.specs.Theorems as Env
 use Rattle.env_list.specs.Theorems.{ListsTheVariables}
-use Rattle.print_ledger.specs.Theorems.{PrintCompleteReadsBack}
+use Rattle.print_ledger.specs.Theorems.{PrintCompleteReadsBack, PrintCompleteIsAFrame}
 
 pub record RoundTrips : Type 0 where
   -- "Over lists of writable events with no two runs adjacent, reading what was written gives the list;
@@ -17,6 +17,8 @@ pub record RoundTrips : Type 0 where
   pub recordReadsBack : Telnet.RecordReadsBack
   -- And so is the print complete record.
   pub printCompleteReadsBack : PrintCompleteReadsBack
+  -- The print complete record that is written reads as a frame: the client's, a print, with no flag set and nothing behind the header.
+  pub printCompleteIsAFrame : PrintCompleteIsAFrame
   -- "The writer escapes 0 to 3 and always writes VALUE; reading it back gives the same first byte and the same kinds, names and values in order."
   pub variablesReadBack : Env.ReadsBack
   -- What was read, written again, reads the same.

@@ -1,12 +1,12 @@
 -- Every list of calls from fresh is heard back as `Theorems.HeardBack` says, by induction on the list: each call keeps the balance of what
 -- was accepted with what was completed, cleared and is held. Assumes nothing.
 use mathlib.Core.Path.{_≡_, refl}
-use mathlib.Core.Bool.{not}
+use mathlib.Core.Bool.{Bool, true, false, not, _&&_}
 use mathlib.Core.Logic.{_↔_}
 use mathlib.Core.List.{List, [], _∷_}
 use Prim.Native.Nat.{ℕ, _+_, _≤_}
 use native.Mathlib.Omega.{arith}
-use lib.Dec.{T, ltb}
+use lib.Dec.{T, eqb, ltb}
 use lib.ListN.{length}
 use borrow.Author.Tests.{ltb-true, ltb-false}
 use Rattle.octets.specs.Choice.{if_then_else_}
@@ -16,65 +16,73 @@ use Rattle.print_frame.specs.declared.Direction.{Direction}
 use Rattle.print_frame.specs.declared.Direction.the-variants.{Outbound, Inbound}
 use Rattle.print_frame.specs.declared.Operation.{Operation}
 use Rattle.print_frame.specs.declared.Operation.the-variants.{Print, Clear}
+use Rattle.print_frame.specs.declared.Frame.{Frame}
 use Rattle.print_frame.specs.declared.FrameAnswer.{FrameAnswer}
 use Rattle.print_frame.specs.declared.FrameAnswer.the-variants.{Read, Refused}
 use Rattle.print_ledger.specs.declared.Ledger.{Ledger}
 use Rattle.print_ledger.specs.declared.Ledger.the-variants.{Idle, Holding}
-use Rattle.print_ledger.specs.declared.Taken.{Taken}
 use Rattle.print_ledger.specs.declared.Completed.{Completed}
 use Rattle.print_frame.specs.Frame.{frameOf}
-use Rattle.print_ledger.specs.Ledger.{fresh, taken, answered, takeFrame, printComplete, completeInto}
-use Rattle.print_ledger.specs.History.{Call, frame, completion, after, isHeld, isCleared, isRefused, isWritten}
-use Rattle.print_ledger.specs.History.{accepts, clears, completes, refusedCall, one, countCalls, run, held}
+use Rattle.print_ledger.specs.Ledger.{fresh, answered, takeFrame, printComplete, completeInto}
+use Rattle.print_ledger.specs.History.{Call, frame, completion, after, held, isOutbound, asks, isPrint, isClear, prints}
+use Rattle.print_ledger.specs.History.{refusedReceipt, refusedCompletion, refusedCall, accepts, clears, completes, one, countCalls, run}
 use Rattle.print_ledger.specs.Theorems.{PrintsAreHeardBack}
 
--- what a frame makes of a ledger: a print that is accepted is held, a record that is cleared was
-abbrev Balanced : Ledger → Taken → Type 0
-Balanced l t = held l + one (isHeld (t .receipt)) ≡ one (isCleared (t .receipt)) + held (t .ledger)
+abbrev isTaken : Ledger → FrameAnswer → Bool
+isTaken l a = not (refusedReceipt (answered l a .receipt))
 
-taken-balanced : (l : Ledger) (d : Direction) (o : Operation) → Balanced l (taken l d o)
-unfolding isHeld isCleared held
-taken-balanced Idle Inbound o = refl
-taken-balanced Holding Inbound o = refl
-taken-balanced Idle Outbound Print = refl
-taken-balanced Holding Outbound Print = refl
-taken-balanced Idle Outbound Clear = refl
-taken-balanced Holding Outbound Clear = refl
+-- what a frame makes of a ledger
+record Stepped (l : Ledger) (a : FrameAnswer) : Type 0 where
+  balanced : held l + one (asks Print a && isTaken l a) ≡ one (asks Clear a && eqb (held l) 1) + held (answered l a .ledger)
+  print-held : T (asks Print a) → held l ≡ 0 → T (asks Print a && isTaken l a) × (held (answered l a .ledger) ≡ 1)
+  clear-empties : T (asks Clear a) → T (isTaken l a) × (held (answered l a .ledger) ≡ 0)
+  kept : T (refusedReceipt (answered l a .receipt)) → answered l a .ledger ≡ l
 
-answered-balanced : (l : Ledger) (a : FrameAnswer) → Balanced l (answered l a)
-unfolding isHeld isCleared held
-answered-balanced l (Read f) = taken-balanced l (f .direction) (f .operation)
-answered-balanced Idle (Refused n) = refl
-answered-balanced Holding (Refused n) = refl
+-- a frame with a direction and an operation in place of its own
+abbrev turned : Frame → Direction → Operation → Frame
+turned f d o = record {
+  direction = d;
+  «diagnostics_included» = f .«diagnostics_included»;
+  flags = f .flags;
+  operation = o;
+  diagnostics = f .diagnostics;
+  «print_data» = f .«print_data»;
+}
 
--- a frame that is refused keeps the ledger
-abbrev Kept : Ledger → Taken → Type 0
-Kept l t = T (isRefused (t .receipt)) → t .ledger ≡ l
+read-stepped : (l : Ledger) (f : Frame) (d : Direction) (o : Operation) → Stepped l (Read (turned f d o))
+unfolding held isOutbound asks refusedReceipt
+read-stepped l f Inbound o =
+    record { balanced = omega arith; print-held = λ p. absurd p; clear-empties = λ c. absurd c; kept = λ r. refl }
+read-stepped Idle f Outbound Print =
+    record { balanced = refl; print-held = λ p h. (tt, refl); clear-empties = λ c. absurd c; kept = λ r. absurd r }
+read-stepped Holding f Outbound Print =
+    record { balanced = refl; print-held = λ p h. absurd (omega arith); clear-empties = λ c. absurd c; kept = λ r. refl }
+read-stepped Idle f Outbound Clear =
+    record { balanced = refl; print-held = λ p. absurd p; clear-empties = λ c. (tt, refl); kept = λ r. absurd r }
+read-stepped Holding f Outbound Clear =
+    record { balanced = refl; print-held = λ p. absurd p; clear-empties = λ c. (tt, refl); kept = λ r. absurd r }
 
-taken-kept : (l : Ledger) (d : Direction) (o : Operation) → Kept l (taken l d o)
-unfolding isRefused
-taken-kept l Inbound o = λ r. refl
-taken-kept Idle Outbound Print = λ r. absurd r
-taken-kept Holding Outbound Print = λ r. refl
-taken-kept Idle Outbound Clear = λ r. absurd r
-taken-kept Holding Outbound Clear = λ r. absurd r
+stepped : (l : Ledger) (a : FrameAnswer) → Stepped l a
+unfolding asks refusedReceipt
+stepped l (Read f) = read-stepped l f (f .direction) (f .operation)
+stepped l (Refused n) =
+    record { balanced = omega arith; print-held = λ p. absurd p; clear-empties = λ c. absurd c; kept = λ r. refl }
 
-answered-kept : (l : Ledger) (a : FrameAnswer) → Kept l (answered l a)
-answered-kept l (Read f) = taken-kept l (f .direction) (f .operation)
-answered-kept l (Refused n) = λ r. refl
+abbrev isWritten : Outcome Completed → Bool
+isWritten o = not (refusedCompletion (o .answer .completion))
 
 -- what a completion makes of a ledger and an output
 record Ended (l : Ledger) (out : List ℕ) (o : Outcome Completed) : Type 0 where
-  exactly : T (isWritten (o .answer .completion)) ↔ ((l ≡ Holding) × (length printComplete ≤ length out))
-  bytes : o .lent ≡ (if isWritten (o .answer .completion) then overwrite out 0 printComplete else out)
-  idle : T (isWritten (o .answer .completion)) → o .answer .ledger ≡ Idle
-  kept : T (not (isWritten (o .answer .completion))) → o .answer .ledger ≡ l
-  balanced : held l ≡ one (isWritten (o .answer .completion)) + held (o .answer .ledger)
+  exactly : T (isWritten o) ↔ ((held l ≡ 1) × (length printComplete ≤ length out))
+  bytes : o .lent ≡ (if isWritten o then overwrite out 0 printComplete else out)
+  idle : T (isWritten o) → held (o .answer .ledger) ≡ 0
+  kept : T (refusedCompletion (o .answer .completion)) → o .answer .ledger ≡ l
+  balanced : held l ≡ one (isWritten o) + held (o .answer .ledger)
 
 completion-ended : (l : Ledger) (out : List ℕ) → Ended l out (completeInto l out)
-unfolding isWritten held completeInto
+unfolding refusedCompletion held completeInto
 completion-ended Idle out = record {
-  exactly = (λ w. absurd w, λ h. let e = h .0 in let z : _≡_ {A = ℕ} 0 1 = cc in omega arith);
+  exactly = (λ w. absurd w, λ h. absurd (omega arith));
   bytes = refl;
   idle = λ w. absurd w;
   kept = λ r. refl;
@@ -98,13 +106,13 @@ completion-ended Holding out =
     })
 
 call-balanced : (l : Ledger) (k : Call) → held l + one (accepts l k) ≡ one (completes l k) + one (clears l k) + held (after l k)
-unfolding after accepts clears completes takeFrame
-call-balanced l (frame f) = omega (arith, answered-balanced l (frameOf f))
+unfolding after isPrint isClear prints refusedCall accepts clears completes takeFrame
+call-balanced l (frame f) = omega (arith, stepped l (frameOf f) .balanced)
 call-balanced l (completion out) = omega (arith, completion-ended l out .balanced)
 
 call-kept : (l : Ledger) (k : Call) → T (refusedCall l k) → after l k ≡ l
 unfolding after refusedCall takeFrame
-call-kept l (frame f) = answered-kept l (frameOf f)
+call-kept l (frame f) = stepped l (frameOf f) .kept
 call-kept l (completion out) = completion-ended l out .kept
 
 -- the balance from any ledger on
@@ -113,13 +121,20 @@ unfolding countCalls run
 balance l [] = omega arith
 balance l (k ∷ ks) = omega (arith, call-balanced l k, balance (after l k) ks)
 
--- behind a completion nothing is completed until a print is accepted
-none-without-print : (l : Ledger) (ks : List Call) → l ≡ Idle → countCalls accepts l ks ≡ 0 → countCalls completes l ks ≡ 0
-unfolding held
-none-without-print l ks e none = let z : held l ≡ 0 = rw e in omega (arith, balance l ks)
+-- where nothing is held, nothing is completed until a print is accepted
+none-without-print : (l : Ledger) (ks : List Call) → held l ≡ 0 → countCalls accepts l ks ≡ 0 → countCalls completes l ks ≡ 0
+none-without-print l ks e none = omega (arith, balance l ks)
+
+none-of-no : (b c : Bool) → T (not b) → one (b && c) ≡ 0
+none-of-no true c n = absurd n
+none-of-no false c n = refl
+
+only-prints : (l : Ledger) (k : Call) → T (not (prints k)) → held l ≡ 0 → held (after l k) ≡ 0
+unfolding accepts
+only-prints l k n e = omega (arith, call-balanced l k, none-of-no (prints k) (not (refusedCall l k)) n)
 
 pub prints-are-heard-back : PrintsAreHeardBack
-unfolding held after completes
+unfolding after held isPrint isClear prints refusedCall accepts completes takeFrame
 prints-are-heard-back ks =
     let all = balance fresh ks in
     let l = run fresh ks in
@@ -128,7 +143,10 @@ prints-are-heard-back ks =
       at-most-one = omega arith;
       exactly = λ out. completion-ended l out .exactly;
       bytes = λ out. completion-ended l out .bytes;
-      not-before = λ out w. let e : held l ≡ 1 = rw (completion-ended l out .exactly .0 w .0) in omega arith;
+      not-before = λ out w. omega (arith, completion-ended l out .exactly .0 w .0);
       once = λ out js w none. none-without-print (after l (completion out)) js (completion-ended l out .idle w) none;
+      print-held = λ f. stepped l (frameOf f) .print-held;
+      clear-empties = λ f. stepped l (frameOf f) .clear-empties;
+      only-prints = only-prints l;
       kept = call-kept l;
     }

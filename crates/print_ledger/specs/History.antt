@@ -1,8 +1,17 @@
 -- The history of a ledger: any calls of it, one after the other, each on what the one before handed back. What is counted is counted from
--- the list of calls, by what each of them answers (specification, "Printer frames"). `Theorems.antt` says what holds of every history.
+-- the list of calls (specification, "Printer frames"): what a call asks is read from its bytes, and whether it is refused from its answer.
+-- `Theorems.antt` says what holds of every history.
 use Prim.Native.Nat.{ℕ, _+_}
-use mathlib.Core.Bool.{Bool, true, false, not}
+use mathlib.Core.Bool.{Bool, true, false, not, _&&_}
 use mathlib.Core.List.{List, [], _∷_}
+use lib.Dec.{eqb}
+use Rattle.print_frame.specs.declared.Direction.{Direction}
+use Rattle.print_frame.specs.declared.Direction.the-variants.{Outbound, Inbound}
+use Rattle.print_frame.specs.declared.Operation.{Operation}
+use Rattle.print_frame.specs.declared.Operation.the-variants.{Print, Clear}
+use Rattle.print_frame.specs.declared.FrameAnswer.{FrameAnswer}
+use Rattle.print_frame.specs.declared.FrameAnswer.the-variants.{Read, Refused as NotRead}
+use Rattle.print_frame.specs.Frame.{operationCode, frameOf}
 use Rattle.print_ledger.specs.declared.Ledger.{Ledger}
 use Rattle.print_ledger.specs.declared.Ledger.the-variants.{Idle, Holding}
 use Rattle.print_ledger.specs.declared.Receipt.{Receipt}
@@ -22,49 +31,66 @@ unfoldable pub after : Ledger → Call → Ledger
 after l (frame f) = takeFrame l f .ledger
 after l (completion out) = completeInto l out .answer .ledger
 
--- what an answer says
-unfoldable pub isHeld : Receipt → Bool
-isHeld Held = true
-isHeld Cleared = false
-isHeld NothingToClear = false
-isHeld (NotTaken n) = false
+-- how many records a ledger holds
+unfoldable pub held : Ledger → ℕ
+held Idle = 0
+held Holding = 1
 
-unfoldable pub isCleared : Receipt → Bool
-isCleared Held = false
-isCleared Cleared = true
-isCleared NothingToClear = false
-isCleared (NotTaken n) = false
+-- whether a frame goes from the server to the client
+unfoldable pub isOutbound : Direction → Bool
+isOutbound Outbound = true
+isOutbound Inbound = false
 
-unfoldable pub isRefused : Receipt → Bool
-isRefused Held = false
-isRefused Cleared = false
-isRefused NothingToClear = false
-isRefused (NotTaken n) = true
+-- whether what was read is a good outbound frame with an operation
+unfoldable pub asks : Operation → FrameAnswer → Bool
+asks o (Read f) = isOutbound (f .direction) && eqb (operationCode (f .operation)) (operationCode o)
+asks o (NotRead n) = false
 
-unfoldable pub isWritten : Completion → Bool
-isWritten Written = true
-isWritten (NotWritten n) = false
+-- bytes that are a good outbound print
+unfoldable pub isPrint : List ℕ → Bool
+isPrint f = asks Print (frameOf f)
 
--- a call is an accepted print where its receipt says that the frame is held
+-- bytes that are a good outbound clear
+unfoldable pub isClear : List ℕ → Bool
+isClear f = asks Clear (frameOf f)
+
+-- a call that is a good outbound print
+unfoldable pub prints : Call → Bool
+prints (frame f) = isPrint f
+prints (completion out) = false
+
+-- a receipt that is a number
+unfoldable pub refusedReceipt : Receipt → Bool
+refusedReceipt Held = false
+refusedReceipt Cleared = false
+refusedReceipt NothingToClear = false
+refusedReceipt (NotTaken n) = true
+
+-- a completion's answer that is a number
+unfoldable pub refusedCompletion : Completion → Bool
+refusedCompletion Written = false
+refusedCompletion (NotWritten n) = true
+
+-- a call is refused where its answer is a number
+unfoldable pub refusedCall : Ledger → Call → Bool
+refusedCall l (frame f) = refusedReceipt (takeFrame l f .receipt)
+refusedCall l (completion out) = refusedCompletion (completeInto l out .answer .completion)
+
+-- a call is an accepted print where it is a print and is not refused
 unfoldable pub accepts : Ledger → Call → Bool
-accepts l (frame f) = isHeld (takeFrame l f .receipt)
-accepts l (completion out) = false
+accepts l k = prints k && not (refusedCall l k)
 
--- it clears a record where it says so: a clear of an idle ledger clears none
+-- it clears a record where it is a clear and one is held
 unfoldable pub clears : Ledger → Call → Bool
-clears l (frame f) = isCleared (takeFrame l f .receipt)
+clears l (frame f) = isClear f && eqb (held l) 1
 clears l (completion out) = false
 
--- it completes a record where the print complete record is written
+-- it completes a record where it is a completion and is not refused
 unfoldable pub completes : Ledger → Call → Bool
 completes l (frame f) = false
-completes l (completion out) = isWritten (completeInto l out .answer .completion)
+completes l (completion out) = not (refusedCall l (completion out))
 
--- it is refused where its answer is a number
-unfoldable pub refusedCall : Ledger → Call → Bool
-refusedCall l (frame f) = isRefused (takeFrame l f .receipt)
-refusedCall l (completion out) = not (isWritten (completeInto l out .answer .completion))
-
+-- what a call counts for
 abbrev pub one : Bool → ℕ
 one b = if b then 1 else 0
 
@@ -77,11 +103,6 @@ countCalls kind l (k ∷ ks) = one (kind l k) + countCalls kind (after l k) ks
 unfoldable pub run : Ledger → List Call → Ledger
 run l [] = l
 run l (k ∷ ks) = run (after l k) ks
-
--- how many records a ledger holds
-unfoldable pub held : Ledger → ℕ
-held Idle = 0
-held Holding = 1
 
 -- the totals of a history from fresh
 abbrev pub acceptedPrints : List Call → ℕ

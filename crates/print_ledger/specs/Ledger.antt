@@ -4,10 +4,9 @@ use Prim.Native.Nat.{ℕ}
 use mathlib.Core.List.{List, [], _∷_}
 use lib.Dec.{ltb}
 use lib.ListN.{length}
-use Rattle.print_frame.specs.declared.Direction.{Direction}
 use Rattle.print_frame.specs.declared.Direction.the-variants.{Outbound, Inbound}
-use Rattle.print_frame.specs.declared.Operation.{Operation}
 use Rattle.print_frame.specs.declared.Operation.the-variants.{Print, Clear}
+use Rattle.print_frame.specs.declared.Frame.{Frame}
 use Rattle.print_frame.specs.declared.FrameAnswer.{FrameAnswer}
 use Rattle.print_frame.specs.declared.FrameAnswer.the-variants.{Read, Refused as NotRead}
 use Rattle.print_ledger.specs.declared.Ledger.{Ledger}
@@ -42,15 +41,16 @@ cleared Idle = afterFrame Idle NothingToClear
 cleared Holding = afterFrame Idle Cleared
 
 -- a frame that was read, by its direction and its operation: 52 for an inbound one, before 50
-abbrev pub taken : Ledger → Direction → Operation → Taken
-taken l Inbound o = afterFrame l (NotTaken inboundFrame)
-taken l Outbound Print = printed l
-taken l Outbound Clear = cleared l
+abbrev pub taken : Ledger → Frame → Taken
+taken l f = elim (f .direction) [
+  | Inbound ↦ afterFrame l (NotTaken inboundFrame)
+  | Outbound ↦ elim (f .operation) [ Print ↦ printed l | Clear ↦ cleared l ]
+]
 
 -- a frame as it was read
 abbrev pub answered : Ledger → FrameAnswer → Taken
 answered l (NotRead n) = afterFrame l (NotTaken n)
-answered l (Read f) = taken l (f .direction) (f .operation)
+answered l (Read f) = taken l f
 
 -- the ledger given a frame: 40 to 45 before 52
 unfoldable pub takeFrame : Ledger → List ℕ → Taken

@@ -1,26 +1,24 @@
--- What holds of every history of a ledger from fresh, of print complete on the line, and of frames at the limits, the specification's
--- worked line among them. The proofs are in `proofs/HeardBack.antt` and `proofs/Worked.antt`.
+-- What holds of every history of a ledger from fresh, and of the print complete record: on the line, and as a frame. The proofs are in
+-- `proofs/HeardBack.antt` and `proofs/OnTheLine.antt`.
 use mathlib.Core.Path.{_≡_}
-use mathlib.Core.Bool.{false}
+use mathlib.Core.Bool.{false, not}
 use mathlib.Core.Logic.{_↔_}
 use mathlib.Core.List.{List, [], _∷_, _++_}
 use Prim.Native.Nat.{ℕ, _+_, _≤_, _<_}
 use lib.Dec.{T}
 use lib.ListN.{length}
-use Rattle.print_frame.specs.declared.Direction.the-variants.{Outbound}
+use Rattle.print_frame.specs.declared.Direction.the-variants.{Inbound}
 use Rattle.print_frame.specs.declared.Operation.the-variants.{Print}
-use Rattle.print_frame.specs.declared.FrameAnswer.the-variants.{Read, Refused}
-use Rattle.print_ledger.specs.declared.Ledger.the-variants.{Holding}
-use Rattle.print_frame.specs.Frame.{byte, flagsOf, frameOf}
+use Rattle.print_frame.specs.declared.FrameAnswer.the-variants.{Read}
+use Rattle.print_frame.specs.Frame.{flagsOf, frameOf}
 use Rattle.print_ledger.specs.Ledger.{fresh, printComplete, completeInto}
-use Rattle.print_ledger.specs.History.{Call, completion, after, accepts, completes, refusedCall, countCalls, run, held}
-use Rattle.print_ledger.specs.History.{acceptedPrints, recordsCleared, completions}
+use Rattle.print_ledger.specs.History.{Call, frame, completion, after, held, isPrint, isClear, prints, refusedCall}
+use Rattle.print_ledger.specs.History.{accepts, completes, countCalls, run, acceptedPrints, recordsCleared, completions}
 use Rattle.telnet.specs.Event.{run as dataRun, command, eor}
 use Rattle.telnet.specs.Write.{writtenAll}
 use Rattle.telnet.specs.Record.{recordOf, complete}
 use Rattle.octets.specs.Choice.{if_then_else_}
 use Rattle.octets.specs.Lent.{overwrite}
-use Rattle.refusal.specs.Refusal.{badFrameLength, badHeaderLength}
 
 -- What is heard back after some calls, refused ones among them, and what the next call does. It is said of every list of calls, and so at
 -- every point of a history.
@@ -31,7 +29,7 @@ pub record HeardBack (ks : List Call) : Type 0 where
   pub at-most-one : completions ks ≤ acceptedPrints ks
   -- a completion is written exactly when a record is held and there is room for it
   pub exactly : (out : List ℕ)
-      → T (completes (run fresh ks) (completion out)) ↔ ((run fresh ks ≡ Holding) × (length printComplete ≤ length out))
+      → T (completes (run fresh ks) (completion out)) ↔ ((held (run fresh ks) ≡ 1) × (length printComplete ≤ length out))
   -- then the ten bytes are written and nothing else, otherwise nothing
   pub bytes : (out : List ℕ)
       → completeInto (run fresh ks) out .lent ≡ (if completes (run fresh ks) (completion out) then overwrite out 0 printComplete else out)
@@ -42,6 +40,14 @@ pub record HeardBack (ks : List Call) : Type 0 where
   pub once : (out : List ℕ) (js : List Call)
       → T (completes (run fresh ks) (completion out))
       → countCalls accepts (after (run fresh ks) (completion out)) js ≡ 0 → countCalls completes (after (run fresh ks) (completion out)) js ≡ 0
+  -- "a print frame when idle is held": an outbound print is accepted where nothing is held, and then one is held
+  pub print-held : (f : List ℕ)
+      → T (isPrint f) → held (run fresh ks) ≡ 0 → T (accepts (run fresh ks) (frame f)) × (held (after (run fresh ks) (frame f)) ≡ 1)
+  -- "a clear empties it, idle or not": an outbound clear is not refused, and nothing is held after it, whatever was held
+  pub clear-empties : (f : List ℕ)
+      → T (isClear f) → T (not (refusedCall (run fresh ks) (frame f))) × (held (after (run fresh ks) (frame f)) ≡ 0)
+  -- where nothing is held, no call but an outbound print makes the ledger hold a record
+  pub only-prints : (k : Call) → T (not (prints k)) → held (run fresh ks) ≡ 0 → held (after (run fresh ks) k) ≡ 0
   -- a call that is refused hands the ledger back as it was
   pub kept : (k : Call) → T (refusedCall (run fresh ks) k) → after (run fresh ks) k ≡ run fresh ks
 
@@ -52,3 +58,15 @@ PrintsAreHeardBack = (ks : List Call) → HeardBack ks
 -- them, 12 bytes long on the line. `telnet` says the like of any record, `Theorems.RecordReadsBack`.
 abbrev pub PrintCompleteReadsBack : Type 0
 PrintCompleteReadsBack = (bs : List ℕ) → recordOf (writtenAll (dataRun printComplete ∷ command eor ∷ []) ++ bs) ≡ complete printComplete 12
+
+-- Print complete is a good frame from the client (RFC 4777, figures 3 and 5): '01'X "Print/Print complete", with no flag set and neither
+-- diagnostic bytes nor data.
+abbrev pub PrintCompleteIsAFrame : Type 0
+PrintCompleteIsAFrame = frameOf printComplete ≡ Read (record {
+  direction = Inbound;
+  «diagnostics_included» = false;
+  flags = flagsOf 0x00;
+  operation = Print;
+  diagnostics = record { place = 10; length = 0 };
+  «print_data» = record { place = 10; length = 0 };
+})

@@ -87,7 +87,7 @@ impl Ledger {
 
     // A frame that was read.
     fn take(self, frame: Frame) -> Taken
-        ensures { λ r. ⌜ r ≡ taken self (frame .direction) (frame .operation) ⌝ }
+        ensures { λ r. ⌜ r ≡ taken self frame ⌝ }
     {
         let direction = frame.direction;
         let operation = frame.operation;

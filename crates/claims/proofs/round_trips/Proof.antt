@@ -2,7 +2,7 @@
 use Rattle.telnet.proofs.RoundTrip.{reads-back, writes-back}
 use Rattle.telnet.proofs.Unroll.{unrolled}
 use Rattle.telnet.proofs.Between.{record-is-all-data, record-reads-back}
-use Rattle.print_ledger.proofs.OnTheLine.{print-complete-reads-back}
+use Rattle.print_ledger.proofs.OnTheLine.{print-complete-reads-back, print-complete-is-a-frame}
 use Rattle.env.proofs.ReadingBack.{reads-back as variables-read-back, reads-the-same}
 use Rattle.env.proofs.Holding.{holds-again}
 use Rattle.env_list.proofs.Meaning.{lists-the-variables}
@@ -17,6 +17,7 @@ returns c = record {
   recordIsAllData = record-is-all-data;
   recordReadsBack = record-reads-back;
   printCompleteReadsBack = print-complete-reads-back;
+  printCompleteIsAFrame = print-complete-is-a-frame;
   variablesReadBack = variables-read-back;
   variablesReadTheSame = reads-the-same;
   variablesHeldAgain = holds-again;
