@@ -1,0 +1,129 @@
+// Runs the reader of environment strings on the cases of standard input, one a line: a name, a colon, and in hexadecimal digits the room lent for bytes
+// (two bytes), the room lent for numbers (two bytes) and the payload. A line without a colon is a title.
+//
+// A line of output has the name, the answer (the first byte, how many variables, how many bytes; or the refusal), and all that was lent, as it is
+// after the call: bytes, which are EE before, and numbers, which are 7 before. The payloads of RFC 4777 are its own bytes; the others are for the refusals
+// of the specification, every two faults in either order, and each of its readings that is not the only one. `stdout` was made by a Python rendering
+// of RFC 1572 as the specification reads it.
+use env_delivery::Answer;
+
+fn say(text: &[u8]) {
+    io::write_all(1, text);
+}
+
+fn say_number(word: &[u8], n: usize) {
+    say(word);
+    io::print_decimal(1, n as u64);
+}
+
+fn say_bytes(bytes: &[u8]) {
+    let mut text = [0u8; 3300];
+    let n = show::put_hex_spaced(bytes, &mut text, 0);
+    if n <= 3300 {
+        say(&text[0..n]);
+    }
+}
+
+fn say_spaced(n: usize) {
+    say_number(b" ", n);
+}
+
+fn say_numbers(numbers: &[usize]) {
+    let mut i = 0;
+    while i < numbers.len() {
+        say_spaced(numbers[i]);
+        i += 1;
+    }
+}
+
+fn say_read(first: u8, count: usize, used: usize) {
+    say_number(b" read ", first as usize);
+    say_spaced(count);
+    say_spaced(used);
+}
+
+fn say_answer(answer: Answer) {
+    match answer {
+        Answer::Read(first, count, used) => say_read(first, count, used),
+        Answer::Refused(n) => say_number(b" refused ", n as usize),
+    }
+}
+
+fn read_into(payload: &[u8], bytes: &mut [u8], numbers: &mut [usize]) {
+    let answer = env_reader::read(payload, bytes, numbers);
+    say_answer(answer);
+    say(b";");
+    say_bytes(bytes);
+    say(b";");
+    say_numbers(numbers);
+    say(b"\n");
+}
+
+fn read_in(payload: &[u8], room: usize, list: usize) {
+    let mut bytes = [0xEEu8; 1100];
+    let mut numbers = [7usize; 5000];
+    if 1100 < room {
+        return;
+    }
+    if 5000 < list {
+        return;
+    }
+    read_into(payload, &mut bytes[0..room], &mut numbers[0..list]);
+}
+
+// The number that two bytes say.
+fn number(high: u8, low: u8) -> usize {
+    (high as usize) * 256 + (low as usize)
+}
+
+fn run_case(bytes: &[u8]) {
+    let n = bytes.len();
+    if 4 <= n {
+        read_in(
+            &bytes[4..n],
+            number(bytes[0], bytes[1]),
+            number(bytes[2], bytes[3]),
+        );
+    }
+}
+
+fn run_hex(text: &[u8]) {
+    let mut bytes = [0u8; 2200];
+    let n = show::read_hex(text, &mut bytes);
+    if n <= 2200 {
+        run_case(&bytes[0..n]);
+    }
+}
+
+fn run_line(line: &[u8]) {
+    let n = line.len();
+    let colon = show::find_byte(line, 0, b':');
+    if n <= colon {
+        say(line);
+        say(b"\n");
+        return;
+    }
+    say(&line[0..colon + 1]);
+    if 2 <= n - colon {
+        run_hex(&line[colon + 2..n]);
+    }
+}
+
+// Every line of a text.
+fn run(text: &[u8]) {
+    let mut at = 0;
+    while at < text.len() {
+        let end = show::find_byte(text, at, b'\n');
+        if text.len() <= end {
+            return;
+        }
+        run_line(&text[at..end]);
+        at = end + 1;
+    }
+}
+
+fn main() {
+    let mut input = [0u8; 65536];
+    let n = io::read_full(0, &mut input);
+    run(&input[..n]);
+}

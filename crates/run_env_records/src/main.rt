@@ -1,0 +1,150 @@
+// Runs the look-up of a variable on the cases of standard input, one a line: a name, a colon, and in hexadecimal digits the kind (two bytes), the length
+// of the name that is looked up, that name, the length of a buffer (two bytes), the buffer, and the numbers of the records over it (two bytes each). A
+// line without a colon is a title.
+//
+// A line of output has the name and the answer: the length and place of the value, and the value. The records are those that the payloads of RFC 4777 are
+// read to, and others for the readings of the specification. `stdout` was made by a Python rendering of RFC 1572 as the specification reads it.
+use env_records::ValuePlace;
+
+fn say(text: &[u8]) {
+    io::write_all(1, text);
+}
+
+fn say_number(word: &[u8], n: usize) {
+    say(word);
+    io::print_decimal(1, n as u64);
+}
+
+fn say_bytes(bytes: &[u8]) {
+    let mut text = [0u8; 330];
+    let n = show::put_hex_spaced(bytes, &mut text, 0);
+    if n <= 330 {
+        say(&text[0..n]);
+    }
+}
+
+fn say_value(buffer: &[u8], at: usize, n: usize) {
+    if buffer.len() < at {
+        return;
+    }
+    if n <= buffer.len() - at {
+        say_bytes(&buffer[at..at + n]);
+    }
+}
+
+fn say_found(buffer: &[u8], at: usize, n: usize) {
+    say_number(b" ", n);
+    say_number(b" at ", at);
+    say(b";");
+    say_value(buffer, at, n);
+}
+
+fn find_in(kind: usize, name: &[u8], buffer: &[u8], numbers: &[usize]) {
+    match env_records::find(buffer, numbers, kind, name) {
+        ValuePlace::Absent => say(b" absent"),
+        ValuePlace::At(at, n) => say_found(buffer, at, n),
+    }
+    say(b"\n");
+}
+
+// The number that two bytes say.
+fn number(high: u8, low: u8) -> usize {
+    (high as usize) * 256 + (low as usize)
+}
+
+fn set(numbers: &mut [usize], i: usize, n: usize) {
+    if i < numbers.len() {
+        numbers[i] = n;
+    }
+}
+
+// The numbers that pairs of bytes say.
+fn put_numbers(bytes: &[u8], numbers: &mut [usize]) {
+    let n = bytes.len() / 2;
+    let mut i = 0;
+    while i < n {
+        set(numbers, i, number(bytes[2 * i], bytes[2 * i + 1]));
+        i += 1;
+    }
+}
+
+fn run_over(kind: usize, name: &[u8], buffer: &[u8], rest: &[u8]) {
+    let mut numbers = [0usize; 100];
+    let n = rest.len() / 2;
+    put_numbers(rest, &mut numbers);
+    if n <= 100 {
+        find_in(kind, name, buffer, &numbers[0..n]);
+    }
+}
+
+// A buffer with its length before it, and numbers.
+fn run_records(kind: usize, name: &[u8], bytes: &[u8]) {
+    let n = bytes.len();
+    if n < 2 {
+        return;
+    }
+    let m = number(bytes[0], bytes[1]);
+    if m <= n - 2 {
+        run_over(kind, name, &bytes[2..2 + m], &bytes[2 + m..n]);
+    }
+}
+
+fn wide(b: u8) -> usize {
+    b as usize
+}
+
+fn run_case(bytes: &[u8]) {
+    let n = bytes.len();
+    if n < 3 {
+        return;
+    }
+    let m = wide(bytes[2]);
+    if m <= n - 3 {
+        run_records(
+            number(bytes[0], bytes[1]),
+            &bytes[3..3 + m],
+            &bytes[3 + m..n],
+        );
+    }
+}
+
+fn run_hex(text: &[u8]) {
+    let mut bytes = [0u8; 256];
+    let n = show::read_hex(text, &mut bytes);
+    if n <= 256 {
+        run_case(&bytes[0..n]);
+    }
+}
+
+fn run_line(line: &[u8]) {
+    let n = line.len();
+    let colon = show::find_byte(line, 0, b':');
+    if n <= colon {
+        say(line);
+        say(b"\n");
+        return;
+    }
+    say(&line[0..colon + 1]);
+    if 2 <= n - colon {
+        run_hex(&line[colon + 2..n]);
+    }
+}
+
+// Every line of a text.
+fn run(text: &[u8]) {
+    let mut at = 0;
+    while at < text.len() {
+        let end = show::find_byte(text, at, b'\n');
+        if text.len() <= end {
+            return;
+        }
+        run_line(&text[at..end]);
+        at = end + 1;
+    }
+}
+
+fn main() {
+    let mut input = [0u8; 16384];
+    let n = io::read_full(0, &mut input);
+    run(&input[..n]);
+}

@@ -1,0 +1,138 @@
+// Runs the writer of environment strings on the cases of standard input, one a line: a name, a colon, and in hexadecimal digits the first byte, the room
+// lent for the payload (two bytes), the length of a buffer (two bytes), the buffer, and the numbers of the records over it (two bytes each; FFFF stands
+// for the largest number there is). A line without a colon is a title.
+//
+// A line of output has the name, the answer, and all that was lent, as it is after the call; it is EE before. What the reader's cases read is written
+// again; the others are for the refusals of the specification and every two faults in either order. `stdout` was made by a Python rendering of
+// RFC 1572 as the specification reads it.
+use env_writer::Written;
+
+fn say(text: &[u8]) {
+    io::write_all(1, text);
+}
+
+fn say_number(word: &[u8], n: usize) {
+    say(word);
+    io::print_decimal(1, n as u64);
+}
+
+fn say_bytes(bytes: &[u8]) {
+    let mut text = [0u8; 3300];
+    let n = show::put_hex_spaced(bytes, &mut text, 0);
+    if n <= 3300 {
+        say(&text[0..n]);
+    }
+}
+
+fn say_answer(answer: Written) {
+    match answer {
+        Written::Wrote(n) => say_number(b" wrote ", n),
+        Written::Refused(n) => say_number(b" refused ", n as usize),
+    }
+}
+
+fn write_into(first: u8, buffer: &[u8], numbers: &[usize], out: &mut [u8]) {
+    let answer = env_writer::write(first, buffer, numbers, out);
+    say_answer(answer);
+    say(b";");
+    say_bytes(out);
+    say(b"\n");
+}
+
+fn write_in(first: u8, buffer: &[u8], numbers: &[usize], room: usize) {
+    let mut out = [0xEEu8; 1100];
+    if room <= 1100 {
+        write_into(first, buffer, numbers, &mut out[0..room]);
+    }
+}
+
+// The number that two bytes say; FFFF stands for the largest there is.
+fn number(high: u8, low: u8) -> usize {
+    let n = (high as usize) * 256 + (low as usize);
+    if n == 65535 {
+        return 0xFFFFFFFFFFFFFFFF;
+    }
+    n
+}
+
+fn set(numbers: &mut [usize], i: usize, n: usize) {
+    if i < numbers.len() {
+        numbers[i] = n;
+    }
+}
+
+// The numbers that pairs of bytes say.
+fn put_numbers(bytes: &[u8], numbers: &mut [usize]) {
+    let n = bytes.len() / 2;
+    let mut i = 0;
+    while i < n {
+        set(numbers, i, number(bytes[2 * i], bytes[2 * i + 1]));
+        i += 1;
+    }
+}
+
+fn run_over(first: u8, room: usize, buffer: &[u8], rest: &[u8]) {
+    let mut numbers = [0usize; 400];
+    let n = rest.len() / 2;
+    put_numbers(rest, &mut numbers);
+    if n <= 400 {
+        write_in(first, buffer, &numbers[0..n], room);
+    }
+}
+
+fn run_case(bytes: &[u8]) {
+    let n = bytes.len();
+    if n < 5 {
+        return;
+    }
+    let m = number(bytes[3], bytes[4]);
+    if m <= n - 5 {
+        run_over(
+            bytes[0],
+            number(bytes[1], bytes[2]),
+            &bytes[5..5 + m],
+            &bytes[5 + m..n],
+        );
+    }
+}
+
+fn run_hex(text: &[u8]) {
+    let mut bytes = [0u8; 2200];
+    let n = show::read_hex(text, &mut bytes);
+    if n <= 2200 {
+        run_case(&bytes[0..n]);
+    }
+}
+
+fn run_line(line: &[u8]) {
+    let n = line.len();
+    let colon = show::find_byte(line, 0, b':');
+    if n <= colon {
+        say(line);
+        say(b"\n");
+        return;
+    }
+    say(&line[0..colon + 1]);
+    if 2 <= n - colon {
+        run_hex(&line[colon + 2..n]);
+    }
+}
+
+// Every line of a text.
+fn run(text: &[u8]) {
+    let mut at = 0;
+    while at < text.len() {
+        let end = show::find_byte(text, at, b'\n');
+        if text.len() <= end {
+            return;
+        }
+        run_line(&text[at..end]);
+        at = end + 1;
+    }
+}
+
+fn main() {
+    let mut input = [0u8; 81920];
+    let n = io::read_full(0, &mut input);
+    run(&input[..n]);
+}

@@ -1,0 +1,98 @@
+// Runs the listing on the streams of standard input, one a line: a letter, the case's name, and bytes in hexadecimal digits. They are each refusal of the
+// reader and its neighbours, and the mistakes of the specification's list.
+//
+//     l name: stream        the listing of a stream
+//     p name: count tail    the listing of FF FA 18, so many bytes 41 (two bytes say how many), and a tail
+use telnet_line::Listed;
+
+fn say(text: &[u8]) {
+    io::write_all(1, text);
+}
+
+fn say_name(name: &[u8]) {
+    say(b"== ");
+    say(name);
+    say(b"\n");
+}
+
+fn list(s: &[u8]) {
+    let mut out = [0u8; 512];
+    match telnet_listing::list(s, &mut out) {
+        Listed::Wrote(n) => {
+            if n <= 512 {
+                say(&out[0..n]);
+            }
+        }
+        Listed::Refused(_) => {}
+    }
+}
+
+fn list_payload(count: usize, tail: &[u8]) {
+    let mut s = [0x41u8; 1032];
+    octets::put(b"\xFF\xFA\x18", &mut s, 0);
+    if 1025 < count {
+        return;
+    }
+    if 4 < tail.len() {
+        return;
+    }
+    octets::put(tail, &mut s, count + 3);
+    list(&s[0..count + 3 + tail.len()]);
+}
+
+// The number that two bytes say.
+fn number(high: u8, low: u8) -> usize {
+    (high as usize) * 256 + (low as usize)
+}
+
+fn run_case(letter: u8, bytes: &[u8]) {
+    let n = bytes.len();
+    if letter == b'l' {
+        list(bytes);
+        return;
+    }
+    if 2 <= n {
+        list_payload(number(bytes[0], bytes[1]), &bytes[2..n]);
+    }
+}
+
+fn run_digits(letter: u8, digits: &[u8]) {
+    let mut bytes = [0u8; 64];
+    let n = show::read_hex(digits, &mut bytes);
+    if n <= 64 {
+        run_case(letter, &bytes[0..n]);
+    }
+}
+
+// A line: the name stands from its third byte on up to the colon, and behind a blank the bytes.
+fn run_line(line: &[u8]) {
+    let n = line.len();
+    let colon = show::find_byte(line, 2, b':');
+    if n < 4 {
+        return;
+    }
+    if n - 2 < colon {
+        return;
+    }
+    say_name(&line[2..colon]);
+    run_digits(line[0], &line[colon + 2..n]);
+}
+
+// Every line of a text.
+fn run(text: &[u8]) {
+    let mut at = 0;
+    while at < text.len() {
+        let end = show::find_byte(text, at, b'\n');
+        if text.len() <= end {
+            return;
+        }
+        run_line(&text[at..end]);
+        at = end + 1;
+    }
+}
+
+fn main() {
+    let mut input = [0u8; 4096];
+    let n = io::read_full(0, &mut input);
+    run(&input[..n]);
+}
