@@ -3,12 +3,18 @@
 ghost use mathlib.Core.Path.{_≡_};
 ghost use Prim.Native.Nat.{_≤_};
 ghost use lib.ListN.{length};
-ghost use Rattle.octets.specs.Lent.{outcome, overwrite};
+ghost use Rattle.octets.specs.Lent.{outcome};
 ghost use Rattle.telnet_line.specs.Promise.{putFront};
 ghost use Rattle.telnet_listing.specs.Listing.{listing};
+ghost use Rattle.telnet_listing.specs.Printed.{printed, atFront};
 ghost use Rattle.telnet_listing.specs.near.Sized.{sized};
 use telnet_line::Listed;
 use telnet_reader::Answer;
+
+// How many bytes may come, and room for what is printed for so many.
+pub const LIMIT: usize = 65536;
+
+pub const ROOM: usize = 13 * LIMIT + 16;
 
 // How long the whole listing is, if there is room for it. To go on past the room might wrap the sum, so it stops there.
 fn listing_length(s: &[u8], room: usize) -> Listed
@@ -42,10 +48,10 @@ fn listing_length(s: &[u8], room: usize) -> Listed
     }
 }
 
-// Puts the whole listing to the front.
-fn put_lines(s: &[u8], out: &mut [u8])
+// Puts the whole listing to the front, and answers its length.
+fn put_lines(s: &[u8], out: &mut [u8]) -> usize
     requires { ⌜ length (listing (now s)) ≤ length (now out) ⌝ }
-    ensures { λ _. ⌜ now (out .exit) ≡ overwrite (now (out .entry)) 0 (listing (now (s .entry))) ⌝ }
+    ensures { λ r. ⌜ outcome r (now (out .exit)) ≡ atFront (listing (now (s .entry))) (now (out .entry)) ⌝ }
 {
     let mut i = 0;
     let mut at = 0;
@@ -65,10 +71,10 @@ fn put_lines(s: &[u8], out: &mut [u8])
                 i = next;
             }
             Answer::End => {
-                return;
+                return at;
             }
             Answer::Refused(_) => {
-                return;
+                return at;
             }
         }
     }
@@ -79,12 +85,22 @@ pub fn list(s: &[u8], out: &mut [u8]) -> Listed
     ensures { λ r. ⌜ outcome r (now (out .exit)) ≡ putFront (listing (now (s .entry))) (now (out .entry)) ⌝ }
 {
     match listing_length(s, out.len()) {
-        Listed::Wrote(n) => {
-            put_lines(s, out);
-            return Listed::Wrote(n);
+        Listed::Wrote(_) => {
+            return Listed::Wrote(put_lines(s, out));
         }
         Listed::Refused(n) => {
             return Listed::Refused(n);
         }
     }
+}
+
+// What the listing program prints for its input: at the front, with its length. `ROOM` is enough, so there is no refusal.
+pub fn print(input: &[u8], out: &mut [u8; ROOM]) -> usize
+    ensures { λ r. ⌜ outcome r (now (out .exit)) ≡ atFront (printed (now (input .entry))) (now (out .entry)) ⌝ }
+{
+    if LIMIT < input.len() {
+        octets::put(b"TOO LONG\n", out, 0);
+        return 9;
+    }
+    put_lines(input, out)
 }

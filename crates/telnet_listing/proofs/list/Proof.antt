@@ -1,8 +1,9 @@
 -- `telnet_listing::list` meets its contract. Assumes nothing.
-use mathlib.Core.Path.{sym, ap, ap₂, _∙_}
+use mathlib.Core.Path.{sym, ap, _∙_}
+use Prim.Native.Nat.{ℕ}
 use lib.ListN.{length}
 use borrow.Author.Needs.{needs}
-use Rattle.octets.specs.Lent.{outcome}
+use Rattle.octets.specs.Lent.{Outcome, outcome}
 use Rattle.telnet_line.specs.declared.Listed.the-variants.{Wrote, Refused}
 use Rattle.telnet_listing.specs.Listing.{listing}
 use Rattle.telnet_line.proofs.Placing.{given-fits, given-refused}
@@ -13,34 +14,37 @@ use Rattle.telnet_listing.proofs.list.Tie as tie
 listing-length-requires : tie.Need-listing-length-requires
 listing-length-requires c κs = search needs
 
-enum-known-n : tie.Need-enum-known-n
-enum-known-n c = search needs
+enum-told : tie.Need-enum-told
+enum-told c = search needs
 
 put-lines-requires : tie.Need-put-lines-requires
 put-lines-requires c κs =
-    let a = c .before .before .before .before .before .before .before .args in
-    let n = c .before .before in
-    wrote-fits (listing (a .s .now)) (length (a .out .now)) (sym (n .before .before .listing-length .ensures) ∙ n .n .given .1) .0
+    let t = c .before in
+    let n = t .before .before in
+    let a = n .before .before .before .args in
+    wrote-fits (listing (a .s .now)) (length (a .out .now)) (sym (n .listing-length .ensures) ∙ t .enum-told .given .1) .0
 
 same-length : tie.Need-same-length
 same-length c = search needs
 
 returns : tie.Need-returns
 returns c =
-    let a = c .before .before .before .before .before .before .before .before .before .before .args in
+    let p = c .before .before in
+    let t = p .before .before in
+    let n = t .before .before in
+    let a = n .before .before .before .args in
     let x = listing (a .s .now) in
-    let n = c .before .before .before .before .before in
-    let w = wrote-fits x (length (a .out .now)) (sym (n .before .before .listing-length .ensures) ∙ n .n .given .1) in
-    ap₂ outcome (ap Wrote (w .1)) (c .before .before .put-lines .ensures) ∙ sym (given-fits x (a .out .now) (w .0))
+    let w = wrote-fits x (length (a .out .now)) (sym (n .listing-length .ensures) ∙ t .enum-told .given .1) in
+    ap (λ (o : Outcome ℕ). outcome (Wrote (o .answer)) (o .lent)) (p .put-lines .ensures) ∙ sym (given-fits x (a .out .now) (w .0))
 
-enum-known-n-2 : tie.Need-enum-known-n-2
-enum-known-n-2 c = search needs
+enum-known-n : tie.Need-enum-known-n
+enum-known-n c = search needs
 
 returns-2 : tie.Need-returns-2
 returns-2 c =
     let a = c .before .before .before .before .before .before .args in
     let x = listing (a .s .now) in
-    let r = refused-past x (length (a .out .now)) (sym (c .before .before .before .listing-length .ensures) ∙ c .before .n2 .given .1) in
+    let r = refused-past x (length (a .out .now)) (sym (c .before .before .before .listing-length .ensures) ∙ c .before .n .given .1) in
     ap (λ n. outcome (Refused n) (a .out .now)) (r .1) ∙ sym (given-refused x (a .out .now) (r .0))
 
 pub list-spec : {M : Type 1} → statement M
@@ -48,9 +52,9 @@ list-spec =
     tie.close
     (tie.spec
     listing-length-requires
-    enum-known-n
+    enum-told
     put-lines-requires
     same-length
     returns
-    enum-known-n-2
+    enum-known-n
     returns-2)

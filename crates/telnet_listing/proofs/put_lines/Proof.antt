@@ -1,11 +1,11 @@
 -- `telnet_listing::put_lines` meets its contract. The loop's invariant: to put the lines from here on behind those that are there gives the whole.
 -- The measure is how many bytes are left. Assumes nothing.
-use mathlib.Core.Path.{_≡_, refl, ap, _∙_}
+use mathlib.Core.Path.{_≡_, refl, ap, ap₂, _∙_}
 use Prim.Native.Nat.{_+_, _-_, _≤_}
 use native.Mathlib.Omega.{arith}
 use lib.ListN.{length}
 use borrow.Author.Needs.{needs}
-use Rattle.octets.specs.Lent.{overwrite}
+use Rattle.octets.specs.Lent.{outcome, overwrite}
 use Rattle.telnet_listing.specs.Listing.{listing}
 use Rattle.telnet_line.proofs.Few.{text-length, text-put, text-few}
 use Rattle.telnet_listing.proofs.Lines.{linesAt, lines-all, turn-length, turn-put, last-put, further}
@@ -96,7 +96,8 @@ returns c =
     let g = c .enum-told .given .1 in
     let t = turn-length s (l .i) (l .inv .0) (b .look .ensures) g in
     let put = text-put _ (w .line-text .ensures) (l .out) (l .at) (omega (arith, t)) (p .put .ensures) in
-    last-put s (l .i) (l .inv .0) (b .look .ensures) g refl (l .out) (l .at) put ∙ l .inv .3
+    ap₂ outcome (omega (arith, l .inv, t, text-length _ (w .line-text .ensures)))
+    (last-put s (l .i) (l .inv .0) (b .look .ensures) g refl (l .out) (l .at) put ∙ l .inv .3)
 
 enum-told-2 : tie.Need-enum-told-2 Inv-loop μ-loop
 enum-told-2 c = search needs
@@ -114,7 +115,8 @@ returns-2 c =
     let g = c .enum-told2 .given .1 in
     let t = turn-length s (l .i) (l .inv .0) (b .look .ensures) g in
     let put = text-put _ (w .line-text .ensures) (l .out) (l .at) (omega (arith, t)) (p .put .ensures) in
-    last-put s (l .i) (l .inv .0) (b .look .ensures) g refl (l .out) (l .at) put ∙ l .inv .3
+    ap₂ outcome (omega (arith, l .inv, t, text-length _ (w .line-text .ensures)))
+    (last-put s (l .i) (l .inv .0) (b .look .ensures) g refl (l .out) (l .at) put ∙ l .inv .3)
 
 pub put-lines-spec : {M : Type 1} → statement M
 put-lines-spec =
