@@ -9,6 +9,8 @@ pub record RoundTrips : Type 0 where
   pub eventsReadBack : Telnet.ReadsBack
   -- writing what was read without refusal gives the bytes."
   pub bytesWrittenBack : Telnet.WritesBack
+  -- And the writer refuses nothing of what was read.
+  pub readIsWritable : Telnet.ReadIsWritable
   -- "One call reads one event at a place and gives the next place": the reading of a whole stream is one such call after another.
   pub oneEventAfterAnother : Telnet.Unrolled
   -- "A record is all data between two end-of-record events; commands between don't break it."

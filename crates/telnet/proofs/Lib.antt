@@ -1,4 +1,5 @@
 pub mod Stretch
 pub mod Unroll
 pub mod RoundTrip
+pub mod Writable
 pub mod Between

@@ -1,12 +1,13 @@
 -- What holds of every list of events and of every list of bytes (specification, "Framing": "Over lists of writable events with no two runs
 -- adjacent, reading what was written gives the list; writing what was read without refusal gives the bytes"). The proofs are in
--- `proofs/RoundTrip.antt`, `proofs/Unroll.antt` and `proofs/Between.antt`.
+-- `proofs/RoundTrip.antt`, `proofs/Writable.antt`, `proofs/Unroll.antt` and `proofs/Between.antt`.
 use mathlib.Core.Path.{_≡_}
 use mathlib.Core.Bool.{Bool, true, false, not, _&&_}
 use mathlib.Core.List.{List, [], _∷_, _++_}
 use Prim.Native.Nat.{ℕ, _+_}
 use lib.Dec.{T}
 use lib.ListN.{length, drop}
+use Rattle.octets.specs.Bytes.{Bytes}
 use Rattle.telnet.specs.Event.{Event, run, command, negotiation, subnegotiation, iac, eor}
 use Rattle.telnet.specs.Write.{doubled, written, writtenAll, writable}
 use Rattle.telnet.specs.Read.{Front, noEvent, found, refused, eventOf}
@@ -37,6 +38,10 @@ ReadsBack = (es : List Event) → T (all writable es) → T (separate es) → re
 -- Writing what was read without refusal gives the bytes.
 abbrev pub WritesBack : Type 0
 WritesBack = (bs : List ℕ) → reading bs .ending ≡ well → writtenAll (reading bs .events) ≡ bs
+
+-- What was read, refused in the end or not, is writable: no event of a reading of bytes is refused by the writer.
+abbrev pub ReadIsWritable : Type 0
+ReadIsWritable = (bs : List ℕ) → Bytes bs → T (all writable (reading bs .events))
 
 -- what the reading is, given what stands at the front of the bytes
 unfoldable pub readOn : List ℕ → Front → Reading

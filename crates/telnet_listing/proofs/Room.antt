@@ -10,6 +10,7 @@ use lib.ListN.{length, drop, getD, length-append, length-drop}
 use lib.Seq.{getD-drop}
 use borrow.Author.Tests.{lt-ltb, le-ltb}
 use Rattle.octets.specs.Ascii.{ascii}
+use Rattle.octets.specs.Bytes.{Bytes}
 use Rattle.octets.specs.Decimal.{decimal}
 use Rattle.octets.specs.Lent.{Outcome, outcome}
 use Rattle.octets.proofs.Choice.{choice}
@@ -30,9 +31,6 @@ use Rattle.telnet_line.specs.Line.{said, verbName, commandText, text, endingTex
 use Rattle.telnet_listing.specs.Listing.{listing}
 use Rattle.telnet_listing.specs.Printed.{limit, printed, atFront, room, Fits}
 use Rattle.telnet_listing.proofs.Lines.{linesAt, lines-all, behind, turn-length}
-
-abbrev Bytes : List ℕ → Type 0
-Bytes bs = (i : ℕ) → getD bs i 0 < 256
 
 -- a run has data, and the number that another event names is a byte
 abbrev Small : Event → Type 0

@@ -1,10 +1,11 @@
 -- What the listing program prints (specification, the end of "Worked lines of the line": "reads standard input, at most 65,536 bytes (else it
 -- prints only TOO LONG)"), and how long that can be. `proofs/Room.antt` has the proof.
 use mathlib.Core.List.{List}
-use Prim.Native.Nat.{ℕ, _+_, _*_, _≤_, _<_}
+use Prim.Native.Nat.{ℕ, _+_, _*_, _≤_}
 use lib.Dec.{ltb}
-use lib.ListN.{length, getD}
+use lib.ListN.{length}
 use Rattle.octets.specs.Ascii.{ascii}
+use Rattle.octets.specs.Bytes.{Bytes}
 use Rattle.octets.specs.Choice.{if_then_else_}
 use Rattle.octets.specs.Lent.{Outcome, outcome, overwrite}
 use Rattle.telnet_listing.specs.Listing.{listing}
@@ -21,9 +22,9 @@ printed bs = if ltb limit (length bs) then ascii "TOO LONG\n" else listing bs
 abbrev pub room : ℕ
 room = 13 * limit + 16
 
--- What is printed for bytes, numbers below 256, fits that room.
+-- What is printed for bytes fits that room.
 abbrev pub Fits : Type 0
-Fits = (bs : List ℕ) → ((i : ℕ) → getD bs i 0 < 256) → length (printed bs) ≤ room
+Fits = (bs : List ℕ) → Bytes bs → length (printed bs) ≤ room
 
 -- a text put to the front of a buffer, and its length
 abbrev pub atFront : List ℕ → List ℕ → Outcome ℕ

@@ -1,5 +1,6 @@
 -- `claims::round_trips` promises what `telnet`, `env`, `env_list` and `print_ledger` prove. Assumes nothing.
 use Rattle.telnet.proofs.RoundTrip.{reads-back, writes-back}
+use Rattle.telnet.proofs.Writable.{read-is-writable}
 use Rattle.telnet.proofs.Unroll.{unrolled}
 use Rattle.telnet.proofs.Between.{record-is-all-data, record-reads-back}
 use Rattle.print_ledger.proofs.OnTheLine.{print-complete-reads-back, print-complete-is-a-frame}
@@ -13,6 +14,7 @@ returns : tie.Need-returns
 returns c = record {
   eventsReadBack = reads-back;
   bytesWrittenBack = writes-back;
+  readIsWritable = read-is-writable;
   oneEventAfterAnother = unrolled;
   recordIsAllData = record-is-all-data;
   recordReadsBack = record-reads-back;
