@@ -1,6 +1,5 @@
--- How many bits a block has that a table gives, and a block that is joined from others. Assumes nothing.
-use mathlib.Core.Path.{_≡_, refl}
-use mathlib.Core.List.{List, [], _∷_, _++_, map}
+-- How many bits a block has that a table gives. Assumes nothing.
+use mathlib.Core.List.{List, [], _∷_, map}
 use Prim.Native.Nat.{ℕ, suc, _+_, _*_, _^_, _<_}
 use native.Mathlib.Nat.{add-zero, zero-add, add-suc, suc-add, pow-suc}
 use native.Mathlib.Omega.{arith}
@@ -17,9 +16,3 @@ continued-lt w x (p ∷ ps) a i h =
 pub permuted-lt : (w : ℕ) (t : List ℕ) (x : ℕ) → permuted w t x < 2 ^ length t
 unfolding permuted
 permuted-lt w t x = rw zero-add at (continued-lt w x t 0 0 (omega arith))
-
--- a block more behind the others
-pub continued-snoc : (w : ℕ) (xs : List ℕ) (x a : ℕ) → continued w a (xs ++ x ∷ []) ≡ continued w a xs * 2 ^ w + x
-unfolding continued
-continued-snoc w [] x a = refl
-continued-snoc w (y ∷ ys) x a = continued-snoc w ys x (a * 2 ^ w + y)

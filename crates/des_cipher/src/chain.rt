@@ -9,7 +9,7 @@ ghost use Rattle.des_cipher.specs.near.Boxes.{boxArray};
 ghost use Rattle.des.specs.Schedule.{roundKeys};
 
 // The last block of a chain from eight zeros under round keys.
-fn chain(keys: &[[u8; 8]; 16], boxes: &[u32], blocks: &[u64]) -> u64
+fn chain(keys: &[[u8; 8]; 16], boxes: &[u8; 512], blocks: &[u64]) -> u64
     requires { ⌜ (length (now keys) ≡ 16) × (now boxes ≡ boxArray) ⌝ }
     ensures { λ r. ⌜ r ≡ chained (now (keys .entry)) 0 (now (blocks .entry)) ⌝ }
 {

@@ -11,9 +11,6 @@ key-schedule-requires c κs = search needs
 boxes-requires : tie.Need-boxes-requires
 boxes-requires c κs = search needs
 
-slice-aggregate-chain : tie.Need-slice-aggregate-chain
-slice-aggregate-chain c = search needs
-
 chain-requires : tie.Need-chain-requires
 chain-requires c κs = search needs
 
@@ -25,4 +22,4 @@ returns c =
 pub cbc-last-spec : {M : Type 1} → statement M
 cbc-last-spec =
     tie.close
-    (tie.spec key-schedule-requires boxes-requires slice-aggregate-chain chain-requires returns)
+    (tie.spec key-schedule-requires boxes-requires chain-requires returns)

@@ -45,15 +45,15 @@ loop-less c = search needs
 loop-again : tie.Need-loop-again Inv-loop μ-loop
 loop-again c =
     let l = c .before .before .before .loop in
-    let keys = c .before .before .before .before .before .before .args .keys .now in
-    let blocks = c .before .before .before .before .before .before .args .blocks .now in
+    let keys = c .before .before .before .before .before .args .keys .now in
+    let blocks = c .before .before .before .before .before .args .blocks .now in
     (omega arith, rw (c .encipher-by .ensures) (sym (one-more keys (l .last) blocks (l .i) (omega arith)) ∙ l .inv .1))
 
 returns : tie.Need-returns Inv-loop μ-loop
 unfolding chained
 returns c =
     let l = c .before .loop in
-    let blocks = c .before .before .before .before .args .blocks .now in
+    let blocks = c .before .before .before .args .blocks .now in
     let done : length blocks ≤ l .i = omega arith in
     rw (drop-of-length-le blocks {i = l .i} done) at (l .inv .1)
 

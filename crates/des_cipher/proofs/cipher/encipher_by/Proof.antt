@@ -39,16 +39,13 @@ initial-permutation-requires c κs = search needs
 loop-holds : tie.Need-loop-holds Inv-loop μ-loop
 unfolding output
 loop-holds c =
-    let e : c .initial-permutation .result ≡ permuted 64 IP (c .before .before .args .block) = c .initial-permutation .ensures in
-    let h : c .initial-permutation .result < 2 ^ 64 = rw e (permuted-lt 64 IP (c .before .before .args .block)) in (
+    let e : c .initial-permutation .result ≡ permuted 64 IP (c .before .args .block) = c .initial-permutation .ensures in
+    let h : c .initial-permutation .result < 2 ^ 64 = rw e (permuted-lt 64 IP (c .before .args .block)) in (
       omega arith,
       omega arith,
       mask-lt (c .initial-permutation .result) 32,
       rw (and-mask (c .initial-permutation .result) 32, e),
     )
-
-round-key-requires : tie.Need-round-key-requires Inv-loop μ-loop
-round-key-requires c κs = search needs
 
 mix-requires : tie.Need-mix-requires Inv-loop μ-loop
 mix-requires c κs = search needs
@@ -61,9 +58,9 @@ loop-less c = search needs
 
 loop-again : tie.Need-loop-again Inv-loop μ-loop
 loop-again c =
-    let l = c .before .before .before .loop in
-    let keys = c .before .before .before .before .before .before .args .keys .now in
-    let e : c .mix .result ≡ f (l .right) (getD keys (l .i) []) = c .mix .ensures ∙ ap (f (l .right)) (c .before .round-key .ensures) in (
+    let l = c .before .before .loop in
+    let keys = c .before .before .before .before .args .keys .now in
+    let e : c .mix .result ≡ f (l .right) (getD keys (l .i) []) = c .mix .ensures in (
       omega arith,
       l .inv .2,
       rw e (xor-lt 32 (l .left) (f (l .right) (getD keys (l .i) [])) (l .inv .1) (f-lt (l .right) (getD keys (l .i) []))),
@@ -76,7 +73,7 @@ final-permutation-requires c κs = search needs
 returns : tie.Need-returns Inv-loop μ-loop
 returns c =
     let l = c .before .before .loop in
-    let a = c .before .before .before .before .before .args in
+    let a = c .before .before .before .before .args in
     let done : length (a .keys .now) ≤ l .i = omega arith in
     let e : l .right * 2 ^ 32 % 2 ^ 64 ≡ l .right * 2 ^ 32 = omega arith in
     let pre : bitOr (l .right * 2 ^ 32 % 2 ^ 64) (l .left) ≡ preoutput (l .left) (l .right) [] =
@@ -91,7 +88,6 @@ encipher-by-spec =
     μ-loop
     initial-permutation-requires
     loop-holds
-    round-key-requires
     mix-requires
     add-i
     loop-less
