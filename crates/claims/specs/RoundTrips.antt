@@ -1,6 +1,8 @@
 -- What is written is read back, and what is read is written back (specification, "Framing" and "Environment strings").
 use Rattle.telnet.specs.Theorems as Telnet
 use Rattle.env.specs.Theorems as Env
+use Rattle.env_delivery.specs.Theorems.{ReadIsHeld, RoomSuffices}
+use Rattle.env_writer.specs.Theorems.{WroteReadsBack}
 use Rattle.env_list.specs.Theorems.{ListsTheVariables}
 use Rattle.print_ledger.specs.Theorems.{PrintCompleteReadsBack, PrintCompleteIsAFrame}
 
@@ -26,7 +28,12 @@ pub record RoundTrips : Type 0 where
   -- What was read, written again, reads the same.
   pub variablesReadTheSame : Env.ReadsTheSame
   -- "Names and values without their ESCs go, back to back, into a lent buffer; their places are set in a lent list of variable records": the two
-  -- hold the variables again,
+  -- hold the variables again.
   pub variablesHeldAgain : Env.HoldsAgain
-  -- also where the records are a list of structs.
+  -- What the reader answers and leaves is what the payload says, and what the writer answers and leaves reads as what it was given.
+  pub readIsHeld : ReadIsHeld
+  pub wroteReadsBack : WroteReadsBack
+  -- Room for 1,024 bytes and 64 records is always enough.
+  pub roomSuffices : RoomSuffices
+  -- The variables are held again also where the records are a list of structs.
   pub listsTheVariables : ListsTheVariables

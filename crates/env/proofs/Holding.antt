@@ -12,10 +12,10 @@ use Rattle.octets.specs.Lent.{overwrite}
 use Rattle.octets.proofs.Overwrite.{take-overwrite, length-overwrite}
 use Rattle.env.specs.Variable.{Variable, isKind}
 use Rattle.env.specs.Write.{kindsGood}
-use Rattle.env.specs.Numbers.{packed, recorded, part, held, fits, placed}
+use Rattle.env.specs.Numbers.{recordWidth, recordsOf, packed, recorded, part, held, fits, allPlaced, placed}
 use Rattle.env.specs.Theorems.{HoldsAgain}
 
-pub length-recorded : (at : ℕ) (vs : List Variable) → length (recorded at vs) ≡ 5 * length vs
+pub length-recorded : (at : ℕ) (vs : List Variable) → length (recorded at vs) ≡ recordWidth * length vs
 unfolding recorded
 length-recorded at [] = refl
 length-recorded at (v ∷ vs) = omega (arith, length-recorded (at + length (v .name) + length (v .value)) vs)
@@ -32,7 +32,7 @@ part-apart bytes at a b h =
 -- where variables are packed, their records hold them
 pub held-recorded : (bytes : List ℕ) (at : ℕ) (vs : List Variable) → part bytes at (length (packed vs)) ≡ packed vs
     → held bytes (recorded at vs) ≡ vs
-unfolding packed recorded held
+unfolding packed recorded held recordsOf
 held-recorded bytes at [] h = refl
 held-recorded bytes at (v ∷ vs) h =
     let name = part-apart bytes at (v .name) (v .value ++ packed vs) h in
@@ -42,7 +42,7 @@ held-recorded bytes at (v ∷ vs) h =
 -- where variables have kinds, and room, their records are placed
 pub placed-recorded : (bytes : List ℕ) (at : ℕ) (vs : List Variable) → T (kindsGood vs) → at + length (packed vs) ≤ length bytes
     → T (placed bytes (recorded at vs))
-unfolding packed recorded placed fits kindsGood
+unfolding packed recorded placed allPlaced recordsOf fits kindsGood
 placed-recorded bytes at [] g h = tt
 placed-recorded bytes at (v ∷ vs) g h =
     let good = and-yes (isKind (v .kind)) (kindsGood vs) g in

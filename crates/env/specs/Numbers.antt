@@ -1,46 +1,75 @@
--- Variables as the code holds them: names and values in a buffer, and a list of variable records (the specification's own term), each of five
--- numbers: kind, place and length of the name, place and length of the value.
-use Prim.Native.Nat.{ℕ, _+_}
+-- Variables as the code holds them: names and values in a buffer, and a list of variable records (the specification's own term), each with the kind, place
+-- and length of the name, place and length of the value. The list is one of numbers, so many for each record.
+use Prim.Native.Nat.{ℕ, _+_, _*_}
 use mathlib.Core.Bool.{Bool, true, _&&_}
-use mathlib.Core.List.{List, [], _∷_, _++_}
+use mathlib.Core.List.{List, [], _∷_, _++_, map}
 use lib.Dec.{leb}
 use lib.ListN.{length, take, drop}
-use Rattle.env.specs.Variable.{Variable, variable, isKind}
+use Rattle.env.specs.declared.VariableRecord.{VariableRecord}
+use Rattle.env.specs.Variable.{Variable, variable, isKind, variableLimit}
+
+-- how many numbers a record takes
+abbrev pub recordWidth : ℕ
+recordWidth = 5
+
+-- the most numbers that the records of a payload take
+abbrev pub listLimit : ℕ
+listLimit = recordWidth * variableLimit
+
+-- a record of its numbers
+abbrev pub recordOf : ℕ → ℕ → ℕ → ℕ → ℕ → VariableRecord
+recordOf k a n b m = record { kind = k; «name_at» = a; «name_length» = n; «value_at» = b; «value_length» = m }
+
+-- the numbers of a record
+abbrev pub numbersOf : VariableRecord → List ℕ
+numbersOf r = r .kind ∷ r .«name_at» ∷ r .«name_length» ∷ r .«value_at» ∷ r .«value_length» ∷ []
+
+-- the records that numbers hold; what is left when they are too few for another is no record
+unfoldable pub recordsOf : List ℕ → List VariableRecord
+recordsOf [] = []
+recordsOf (k ∷ []) = []
+recordsOf (k ∷ a ∷ []) = []
+recordsOf (k ∷ a ∷ n ∷ []) = []
+recordsOf (k ∷ a ∷ n ∷ b ∷ []) = []
+recordsOf (k ∷ a ∷ n ∷ b ∷ m ∷ numbers) = recordOf k a n b m ∷ recordsOf numbers
 
 -- names and values back to back
 unfoldable pub packed : List Variable → List ℕ
 packed [] = []
 packed (v ∷ vs) = v .name ++ (v .value ++ packed vs)
 
--- the records of variables that are packed from a place on
+-- the numbers of the records of variables that are packed from a place on
 unfoldable pub recorded : ℕ → List Variable → List ℕ
 recorded at [] = []
 recorded at (v ∷ vs) =
-    v .kind ∷ at ∷ length (v .name) ∷ (at + length (v .name)) ∷ length (v .value)
-    ∷ recorded (at + length (v .name) + length (v .value)) vs
+    numbersOf (recordOf (v .kind) at (length (v .name)) (at + length (v .name)) (length (v .value)))
+    ++ recorded (at + length (v .name) + length (v .value)) vs
 
 -- so many bytes from a place on, or what there is of them
 unfoldable pub part : List ℕ → ℕ → ℕ → List ℕ
 part bytes at n = take n (drop at bytes)
 
--- the variables that records have over a buffer; fewer than five numbers are no record
+-- the variable of a record over a buffer
+abbrev pub variableOf : List ℕ → VariableRecord → Variable
+variableOf bytes r = variable (r .kind) (part bytes (r .«name_at») (r .«name_length»)) (part bytes (r .«value_at») (r .«value_length»))
+
+-- the variables that records have over a buffer
 unfoldable pub held : List ℕ → List ℕ → List Variable
-held bytes [] = []
-held bytes (k ∷ []) = []
-held bytes (k ∷ a ∷ []) = []
-held bytes (k ∷ a ∷ n ∷ []) = []
-held bytes (k ∷ a ∷ n ∷ b ∷ []) = []
-held bytes (k ∷ a ∷ n ∷ b ∷ m ∷ numbers) = variable k (part bytes a n) (part bytes b m) ∷ held bytes numbers
+held bytes numbers = map (variableOf bytes) (recordsOf numbers)
 
 -- a place with its length does not run past a buffer
 unfoldable pub fits : List ℕ → ℕ → ℕ → Bool
 fits bytes at n = leb (at + n) (length bytes)
 
--- each record is a VAR or a USERVAR, and its name and value are in the buffer
+-- a record is a VAR or a USERVAR, and its name and value are in the buffer
+abbrev pub isPlaced : List ℕ → VariableRecord → Bool
+isPlaced bytes r = isKind (r .kind) && (fits bytes (r .«name_at») (r .«name_length») && fits bytes (r .«value_at») (r .«value_length»))
+
+-- each of some records is
+unfoldable pub allPlaced : List ℕ → List VariableRecord → Bool
+allPlaced bytes [] = true
+allPlaced bytes (r ∷ rs) = isPlaced bytes r && allPlaced bytes rs
+
+-- and so of the records that numbers hold
 unfoldable pub placed : List ℕ → List ℕ → Bool
-placed bytes [] = true
-placed bytes (k ∷ []) = true
-placed bytes (k ∷ a ∷ []) = true
-placed bytes (k ∷ a ∷ n ∷ []) = true
-placed bytes (k ∷ a ∷ n ∷ b ∷ []) = true
-placed bytes (k ∷ a ∷ n ∷ b ∷ m ∷ numbers) = (isKind k && (fits bytes a n && fits bytes b m)) && placed bytes numbers
+placed bytes numbers = allPlaced bytes (recordsOf numbers)

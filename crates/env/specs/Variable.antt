@@ -67,3 +67,8 @@ pub data Lookup : Type 0 where
 unfoldable pub lookup : ℕ → List ℕ → List Variable → Lookup
 lookup kind name [] = absent
 lookup kind name (v ∷ vs) = if is kind name v then present (v .value) else lookup kind name vs
+
+-- what was looked up, or something else where it is absent
+unfoldable pub valueOr : List ℕ → Lookup → List ℕ
+valueOr other absent = other
+valueOr other (present value) = value

@@ -1,1 +1,21 @@
-// Environment variables.
+// Environment variables. This crate has what is right, and no function: start with `specs/Variable.antt`, `specs/Fields.antt`, `specs/Read.antt` and
+// `specs/Write.antt`. The code is in `env_records`, `env_text`, `env_delivery`, `env_reader`, `env_writer` and `env_list`.
+
+// A variable record: VAR or USERVAR, and where its name and its value stand in a buffer.
+pub struct VariableRecord {
+    pub kind: usize,
+    pub name_at: usize,
+    pub name_length: usize,
+    pub value_at: usize,
+    pub value_length: usize,
+}
+
+// The most bytes of a payload, and the most variables.
+pub const PAYLOAD_LIMIT: usize = 1024;
+
+pub const VARIABLE_LIMIT: usize = 64;
+
+// How many numbers a record takes in a list of numbers, and the most that a payload's records take.
+pub const RECORD_WIDTH: usize = 5;
+
+pub const LIST_LIMIT: usize = RECORD_WIDTH * VARIABLE_LIMIT;

@@ -8,7 +8,7 @@ use Rattle.env_delivery.specs.declared.Answer.{Answer}
 use Rattle.env_delivery.specs.declared.Answer.the-variants.{Read, Refused}
 use Rattle.env.specs.Variable.{repeated}
 use Rattle.env.specs.Read.{Reading, says, notRead, readingOf}
-use Rattle.env.specs.Numbers.{packed, recorded, held}
+use Rattle.env.specs.Numbers.{recordWidth, packed, recorded, held}
 use Rattle.refusal.specs.Refusal.{noRoom, repeatedVariable}
 use Rattle.octets.specs.Choice.{if_then_else_}
 use Rattle.octets.specs.Lent.{overwrite}
@@ -34,10 +34,14 @@ delivered (says first vs) bytes numbers =
 abbrev pub readInto : List ℕ → List ℕ → List ℕ → Delivery
 readInto payload bytes numbers = delivered (readingOf payload) bytes numbers
 
--- texts and records that were read, handed over unless a variable is there twice or the room is short
-unfoldable pub deliverRead : ℕ → List ℕ → List ℕ → List ℕ → List ℕ → Delivery
-deliverRead first texts records bytes numbers =
-    if repeated (held texts records) then delivery (Refused repeatedVariable) bytes numbers else
+-- texts and records that were read, handed over where there is room for both
+unfoldable pub handOver : ℕ → List ℕ → List ℕ → List ℕ → List ℕ → Delivery
+handOver first texts records bytes numbers =
     if ltb (length bytes) (length texts) then delivery (Refused noRoom) bytes numbers else
     if ltb (length numbers) (length records) then delivery (Refused noRoom) bytes numbers else
-    delivery (Read first (length records / 5) (length texts)) (overwrite bytes 0 texts) (overwrite numbers 0 records)
+    delivery (Read first (length records / recordWidth) (length texts)) (overwrite bytes 0 texts) (overwrite numbers 0 records)
+
+-- handed over unless a variable is there twice
+unfoldable pub deliverRead : ℕ → List ℕ → List ℕ → List ℕ → List ℕ → Delivery
+deliverRead first texts records bytes numbers =
+    if repeated (held texts records) then delivery (Refused repeatedVariable) bytes numbers else handOver first texts records bytes numbers

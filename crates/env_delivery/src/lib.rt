@@ -2,8 +2,9 @@
 ghost use mathlib.Core.Path.{_≡_};
 ghost use Prim.Native.Nat.{_≤_};
 ghost use lib.ListN.{length};
-ghost use Rattle.env_delivery.specs.Promise.{delivery, deliverRead};
+ghost use Rattle.env_delivery.specs.Promise.{delivery, handOver, deliverRead};
 ghost use Rattle.octets.specs.Lent.{overwrite};
+use env::RECORD_WIDTH;
 use env_records::repeats;
 use octets::put;
 use refusal::NO_ROOM;
@@ -28,8 +29,32 @@ fn copy_numbers(from: &[usize], list: &mut [usize])
     }
 }
 
-// Hands over texts and records that were read, unless a variable is there twice or the room is short.
+// Hands over texts and records that were read, where there is room for both. Nothing can be refused behind it.
 pub fn hand_over(
+    first: u8,
+    texts: &[u8],
+    records: &[usize],
+    bytes: &mut [u8],
+    numbers: &mut [usize],
+) -> Answer
+    ensures { λ r. ⌜
+        delivery r (now (bytes .exit)) (now (numbers .exit))
+        ≡ handOver first (now (texts .entry)) (now (records .entry)) (now (bytes .entry)) (now (numbers .entry))
+        ⌝ }
+{
+    if bytes.len() < texts.len() {
+        return Answer::Refused(NO_ROOM);
+    }
+    if numbers.len() < records.len() {
+        return Answer::Refused(NO_ROOM);
+    }
+    put(texts, bytes, 0);
+    copy_numbers(records, numbers);
+    Answer::Read(first, records.len() / RECORD_WIDTH, texts.len())
+}
+
+// Hands over texts and records that were read, unless a variable is there twice. A check that comes before 4 has its place here.
+pub fn deliver(
     first: u8,
     texts: &[u8],
     records: &[usize],
@@ -44,13 +69,5 @@ pub fn hand_over(
     if repeats(texts, records) {
         return Answer::Refused(REPEATED_VARIABLE);
     }
-    if bytes.len() < texts.len() {
-        return Answer::Refused(NO_ROOM);
-    }
-    if numbers.len() < records.len() {
-        return Answer::Refused(NO_ROOM);
-    }
-    put(texts, bytes, 0);
-    copy_numbers(records, numbers);
-    Answer::Read(first, records.len() / 5, texts.len())
+    hand_over(first, texts, records, bytes, numbers)
 }

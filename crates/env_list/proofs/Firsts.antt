@@ -4,16 +4,26 @@ use mathlib.Core.List.{List, _++_}
 use Prim.Native.Nat.{ℕ, zero, suc, _+_, _≤_, _<_}
 use native.Mathlib.Numerals.{add-one}
 use native.Mathlib.Omega.{arith}
-use lib.ListN.{length, set, drop, length-append, length-drop}
-use lib.Seq.{drop-cons, set-at, append-snoc}
-use Rattle.env_records.specs.declared.VariableRecord.{VariableRecord}
-use Rattle.env_records.specs.Records.{recordAt}
-use Rattle.env_list.specs.Lists.{blank, firstRecords}
+use lib.ListN.{length, set, take, drop, length-append, length-drop}
+use lib.Seq.{drop-cons, set-at, append-snoc, take-suc, take-all}
+use Rattle.env.specs.Numbers.{recordsOf}
+use Rattle.env_list.specs.near.Firsts.{firstRecords}
+use Rattle.env.specs.declared.VariableRecord.{VariableRecord}
+use Rattle.env_records.specs.Records.{blank, recordAt}
 
 pub length-firsts : (numbers : List ℕ) (n : ℕ) → length (firstRecords numbers n) ≡ n
 unfolding firstRecords
 length-firsts numbers zero = refl
 length-firsts numbers (suc n) = rw (length-append, length-firsts numbers n) (omega arith)
+
+-- the first records are the front of all, and all where there are so many
+firsts-front : (numbers : List ℕ) (n : ℕ) → n ≤ length (recordsOf numbers) → firstRecords numbers n ≡ take n (recordsOf numbers)
+unfolding firstRecords
+firsts-front numbers zero h = refl
+firsts-front numbers (suc n) h = rw (firsts-front numbers n (omega arith)) (sym (take-suc (recordsOf numbers) n blank h))
+
+pub firsts-all : (numbers : List ℕ) (n : ℕ) → n ≡ length (recordsOf numbers) → firstRecords numbers n ≡ recordsOf numbers
+firsts-all numbers n e = firsts-front numbers n (omega arith) ∙ take-all n (recordsOf numbers) (omega arith)
 
 -- the list once the first k records are set
 abbrev pub begun : List ℕ → ℕ → List VariableRecord → List VariableRecord

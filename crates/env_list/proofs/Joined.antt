@@ -1,69 +1,71 @@
 -- What is delivered as numbers, listed as records: the numbers of a delivery, set in front of a list with the same room, are what `readRecords`
 -- says. Assumes nothing.
-use mathlib.Core.Path.{_≡_, refl, ap}
+use mathlib.Core.Path.{_≡_, refl, ap, _∙_}
 use mathlib.Core.List.{List, _++_, append-assoc}
 use Prim.Native.Nat.{ℕ, zero, suc, _+_, _*_, _/_, _≤_, _<_}
 use native.Mathlib.Omega.{arith}
 use lib.Dec.{ltb}
 use lib.ListN.{length, take, drop, length-take, length-append, List·getD-append}
 use borrow.Author.Tests.{ltb-false}
+use Rattle.env_list.specs.near.Firsts.{firstRecords, countOf, Numbered}
 use Rattle.octets.proofs.Order.{ltb-iff}
 use Rattle.octets.specs.Lent.{outcome, overwrite}
 use Rattle.env.specs.Variable.{Variable, variableLimit}
 use Rattle.env.specs.Read.{Reading, says, notRead, readingOf}
-use Rattle.env.specs.Numbers.{packed, recorded}
+use Rattle.env.specs.Numbers.{recordWidth, listLimit, recordsOf, packed, recorded}
 use Rattle.env.proofs.Holding.{length-recorded}
 use Rattle.env.proofs.Sound.{Reads, reads}
-use Rattle.env_records.specs.declared.VariableRecord.{VariableRecord}
+use Rattle.env.specs.declared.VariableRecord.{VariableRecord}
 use Rattle.env_records.specs.Records.{recordAt}
-use Rattle.env_records.proofs.Steps.{record-of}
+use Rattle.env_records.proofs.Steps.{record-of, length-records}
 use Rattle.env_delivery.specs.declared.Answer.{Answer}
 use Rattle.env_delivery.specs.declared.Answer.the-variants.{Read}
 use Rattle.env_delivery.specs.Promise.{delivery, delivered, readInto}
-use Rattle.env_list.specs.Lists.{listing, firstRecords}
-use Rattle.env_list.specs.Reading.{listed, countOf, Numbered}
-use Rattle.env_list.proofs.Firsts.{begun}
+use Rattle.env_list.specs.Lists.{listing}
+use Rattle.env_list.specs.Reading.{listed}
+use Rattle.env_list.proofs.Firsts.{begun, firsts-all}
 use Rattle.env_list.proofs.Walks.{either}
 
 -- a record that stands in the first of two lists
-record-front : (l m : List ℕ) (i : ℕ) → 5 * (i + 1) ≤ length l → recordAt (l ++ m) i ≡ recordAt l i
+record-front : (l m : List ℕ) (i : ℕ) → recordWidth * (i + 1) ≤ length l → recordAt (l ++ m) i ≡ recordAt l i
 record-front l m i h =
-    let all : i < length (l ++ m) / 5 = rw length-append (omega arith) in
+    let all : i < length (l ++ m) / recordWidth = rw length-append (omega arith) in
     rw (
       record-of (l ++ m) i all,
       record-of l i (omega arith),
-      List·getD-append l m 0 (5 * i) (omega arith),
-      List·getD-append l m 0 (5 * i + 1) (omega arith),
-      List·getD-append l m 0 (5 * i + 2) (omega arith),
-      List·getD-append l m 0 (5 * i + 3) (omega arith),
-      List·getD-append l m 0 (5 * i + 4) (omega arith),
+      List·getD-append l m 0 (recordWidth * i) (omega arith),
+      List·getD-append l m 0 (recordWidth * i + 1) (omega arith),
+      List·getD-append l m 0 (recordWidth * i + 2) (omega arith),
+      List·getD-append l m 0 (recordWidth * i + 3) (omega arith),
+      List·getD-append l m 0 (recordWidth * i + 4) (omega arith),
     )
 
-firsts-front : (l m : List ℕ) (n : ℕ) → 5 * n ≤ length l → firstRecords (l ++ m) n ≡ firstRecords l n
+firsts-front : (l m : List ℕ) (n : ℕ) → recordWidth * n ≤ length l → firstRecords (l ++ m) n ≡ firstRecords l n
 unfolding firstRecords
 firsts-front l m zero h = refl
 firsts-front l m (suc n) h = rw (firsts-front l m n (omega arith), record-front l m n (omega arith))
 
--- the first records of variables, whatever numbers are behind theirs
+-- the first records of variables, whatever numbers are behind theirs, are all of them
 firsts-recorded : (vs : List Variable) (nums rest : List ℕ)
-    → firstRecords (overwrite nums 0 (recorded 0 vs) ++ rest) (length vs) ≡ firstRecords (recorded 0 vs) (length vs)
+    → firstRecords (overwrite nums 0 (recorded 0 vs) ++ rest) (length vs) ≡ recordsOf (recorded 0 vs)
 unfolding overwrite
 firsts-recorded vs nums rest =
     let e = length-recorded 0 vs in
-    rw (append-assoc (recorded 0 vs) (drop (0 + length (recorded 0 vs)) nums) rest) (firsts-front (recorded 0 vs) _ (length vs) (omega arith))
+    rw (append-assoc (recorded 0 vs) (drop (0 + length (recorded 0 vs)) nums) rest)
+    (firsts-front (recorded 0 vs) _ (length vs) (omega arith) ∙ firsts-all (recorded 0 vs) (length vs) (omega (arith, length-records (recorded 0 vs))))
 
 -- numbers and a list of records have room for the same number of variables
 abbrev pub SameRoom : List ℕ → ℕ → Type 0
-SameRoom nums room = (n : ℕ) → n ≤ variableLimit → ltb (length nums) (5 * n) ≡ ltb room n
+SameRoom nums room = (n : ℕ) → n ≤ variableLimit → ltb (length nums) (recordWidth * n) ≡ ltb room n
 
--- numbers for 64 records, cut to those of fewer, or whole
-pub cut-room : (nums : List ℕ) (k room : ℕ) → length nums ≡ 320 → k ≡ 5 * room → room < 64 → SameRoom (take k nums) room
+-- numbers for as many records as a payload has, cut to those of fewer, or whole
+pub cut-room : (nums : List ℕ) (k room : ℕ) → length nums ≡ listLimit → k ≡ recordWidth * room → room < variableLimit → SameRoom (take k nums) room
 cut-room nums k room size cut h n few =
-    let e : length (take k nums) ≡ 5 * room = rw length-take (omega arith) in
-    ltb-iff (length (take k nums)) (5 * n) room n (λ g. omega (arith, e)) (λ g. omega (arith, e))
+    let e : length (take k nums) ≡ recordWidth * room = rw length-take (omega arith) in
+    ltb-iff (length (take k nums)) (recordWidth * n) room n (λ g. omega (arith, e)) (λ g. omega (arith, e))
 
-pub whole-room : (nums : List ℕ) (room : ℕ) → length nums ≡ 320 → 64 ≤ room → SameRoom nums room
-whole-room nums room size h n few = ltb-iff (length nums) (5 * n) room n (λ g. omega arith) (λ g. omega arith)
+pub whole-room : (nums : List ℕ) (room : ℕ) → length nums ≡ listLimit → variableLimit ≤ room → SameRoom nums room
+whole-room nums room size h n few = ltb-iff (length nums) (recordWidth * n) room n (λ g. omega arith) (λ g. omega arith)
 
 abbrev Joins : Reading → List ℕ → List ℕ → List ℕ → List VariableRecord → Type 0
 Joins r bytes nums rest list =

@@ -34,9 +34,9 @@ use denote.Lend.{Held}
 use denote.Index.{place, place-is, others, elem-out, elem-put, opens-slice, closes-slice}
 use denote.Steps.{owned}
 use denote.Struct.Laws as LL
-use Rattle.env_records.specs.declared.VariableRecord.{VariableRecord}
-use Rattle.env_records.proofs.VariableRecord as T
-use Rattle.env_records.proofs.VariableRecord.Laws as T′
+use Rattle.env.specs.declared.VariableRecord.{VariableRecord}
+use Rattle.env.proofs.VariableRecord as T
+use Rattle.env.proofs.VariableRecord.Laws as T′
 
 -- a test holds or fails
 pub either {ℓ} : {P : Type ℓ} (t : Bool) → (t ≡ true → P) → (t ≡ false → P) → P

@@ -4,8 +4,9 @@ use mathlib.Core.Bool.{Bool, true, false}
 use mathlib.Core.List.{List, [], _∷_, _++_}
 use lib.Dec.{ltb}
 use lib.ListN.{length, set}
-use Rattle.env_records.specs.declared.VariableRecord.{VariableRecord}
-use Rattle.env_records.specs.Records.{recordOf, recordAt}
+use Rattle.env.specs.Numbers.{recordOf}
+use Rattle.env.specs.declared.VariableRecord.{VariableRecord}
+use Rattle.env_records.specs.Records.{recordAt}
 use Rattle.octets.specs.Choice.{if_then_else_}
 
 -- what a function answers and leaves in the list that it is lent
@@ -16,15 +17,6 @@ pub record Listing (A : Type 0) : Type 0 where
 abbrev pub listing : {A : Type 0} → A → List VariableRecord → Listing A
 listing a l = record { answer = a; records = l }
 
--- the record of a place that a list does not have
-abbrev pub blank : VariableRecord
-blank = recordOf 0 0 0 0 0
-
 -- record i of a list, set; where the list has no such place a refusal, and the list is as it was
 unfoldable pub setAt : List VariableRecord → ℕ → VariableRecord → Listing Bool
 setAt list i v = if ltb i (length list) then listing true (set list i v) else listing false list
-
--- the first n records that a list of numbers holds, in their order
-unfoldable pub firstRecords : List ℕ → ℕ → List VariableRecord
-firstRecords numbers zero = []
-firstRecords numbers (suc n) = firstRecords numbers n ++ recordAt numbers n ∷ []

@@ -3,9 +3,9 @@ use mathlib.Core.Path.{_≡_}
 use Prim.Native.Nat.{ℕ}
 use mathlib.Core.List.{List, map}
 use lib.ListN.{take}
+use Rattle.env.specs.Numbers.{variableOf}
 use Rattle.env.specs.Read.{readingOf, says}
-use Rattle.env_records.specs.declared.VariableRecord.{VariableRecord}
-use Rattle.env_records.specs.Records.{variableOf}
+use Rattle.env.specs.declared.VariableRecord.{VariableRecord}
 use Rattle.env_delivery.specs.declared.Answer.the-variants.{Read}
 use Rattle.env_list.specs.Reading.{readRecords}
 

@@ -1,14 +1,20 @@
 // The lent list of variable records as a slice of structs.
+use env::LIST_LIMIT;
+use env::RECORD_WIDTH;
+use env::VARIABLE_LIMIT;
+use env::VariableRecord;
 use env_delivery::Answer;
 use env_reader::read;
-use env_records::VariableRecord;
 use env_records::record_at;
 ghost use mathlib.Core.Path.{_≡_};
 ghost use mathlib.Core.List.{_++_};
 ghost use Prim.Native.Nat.{_≤_};
 ghost use lib.ListN.{length, drop, getD};
-ghost use Rattle.env_list.specs.Lists.{listing, blank, setAt, firstRecords};
-ghost use Rattle.env_list.specs.Reading.{readRecords, countOf, Numbered};
+ghost use Rattle.env_list.specs.near.Firsts.{firstRecords, countOf, Numbered};
+ghost use Rattle.env_records.specs.Records.{blank};
+ghost use Rattle.env_list.specs.Lists.{listing, setAt};
+ghost use Rattle.env_list.specs.Reading.{readRecords};
+ghost use Rattle.env.specs.Numbers.{listLimit};
 ghost use Rattle.octets.specs.Lent.{outcome};
 
 // Record i of a list; all zeros where the list has no such record.
@@ -50,13 +56,13 @@ fn set_all(records: &mut [VariableRecord], numbers: &[usize], n: usize)
     }
 }
 
-// Reads a payload with the numbers of as many records as a list has room for; a payload has at most 64 variables.
+// Reads a payload with the numbers of as many records as a list has room for; a payload has no more variables than the limit.
 fn read_numbers(payload: &[u8], bytes: &mut [u8], numbers: &mut [usize], room: usize) -> Answer
-    requires { ⌜ length (now numbers) ≡ 320 ⌝ }
+    requires { ⌜ length (now numbers) ≡ listLimit ⌝ }
     ensures { λ r. ⌜ Numbered (now (payload .entry)) (now (bytes .entry)) room r (now (bytes .exit)) (now (numbers .exit)) ⌝ }
 {
-    if room < 64 {
-        return read(payload, bytes, &mut numbers[0..5 * room]);
+    if room < VARIABLE_LIMIT {
+        return read(payload, bytes, &mut numbers[0..RECORD_WIDTH * room]);
     }
     read(payload, bytes, numbers)
 }
@@ -75,7 +81,7 @@ fn count_of(answer: Answer) -> usize
 pub fn read_records(payload: &[u8], bytes: &mut [u8], records: &mut [VariableRecord]) -> Answer
     ensures { λ r. ⌜ listing (outcome r (now (bytes .exit))) (now (records .exit)) ≡ readRecords (now (payload .entry)) (now (bytes .entry)) (now (records .entry)) ⌝ }
 {
-    let mut numbers = [0usize; 320];
+    let mut numbers = [0usize; LIST_LIMIT];
     let answer = read_numbers(payload, bytes, &mut numbers, records.len());
     set_all(records, &numbers, count_of(answer));
     answer

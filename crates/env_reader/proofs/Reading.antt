@@ -6,6 +6,7 @@ use mathlib.Core.List.{List, [], _∷_}
 use Prim.Native.Nat.{ℕ, _+_, _-_, _*_, _≤_, _<_}
 use native.Mathlib.Omega.{arith}
 use lib.ListN.{length, getD, take, drop, length-take}
+use Rattle.telnet.specs.Event.{payloadLimit}
 use Rattle.env_reader.specs.declared.Found.{Found as Answered}
 use Rattle.env_reader.specs.declared.Found.the-variants.{Variables, Fault}
 use Rattle.env_reader.specs.near.Found.{Buffers, NameRead}
@@ -15,7 +16,7 @@ use Rattle.env_delivery.proofs.Handing.{handed-these}
 use Rattle.env.specs.Variable.{Variable, variableLimit, isFirst}
 use Rattle.env.specs.Fields.{rowOf}
 use Rattle.env.specs.Read.{Found, variables, fault, distinct, begun, variablesOf}
-use Rattle.env.specs.Numbers.{packed, recorded}
+use Rattle.env.specs.Numbers.{recordWidth, packed, recorded}
 use Rattle.env.proofs.Limits.{reading-short, reading-long}
 use Rattle.env.proofs.Holding.{length-recorded}
 use Rattle.refusal.specs.Refusal.{notIsOrInfo, payloadTooLong}
@@ -23,7 +24,7 @@ use Rattle.octets.proofs.Overwrite.{take-overwrite-front}
 
 -- by the first bytes of a payload
 module _ (bytes numbers : List ℕ) where
-  pub read-long : (p : List ℕ) → 1024 < length p → readInto p bytes numbers ≡ delivery (Refused payloadTooLong) bytes numbers
+  pub read-long : (p : List ℕ) → payloadLimit < length p → readInto p bytes numbers ≡ delivery (Refused payloadTooLong) bytes numbers
   unfolding delivered
   read-long p h = rw (reading-long p h)
 
@@ -32,13 +33,13 @@ module _ (bytes numbers : List ℕ) where
   read-empty [] h = rw (reading-short [] (omega arith))
   read-empty (b ∷ bs) h = absurd (omega arith)
 
-  pub read-unknown : (p : List ℕ) → 0 < length p → length p ≤ 1024 → isFirst (getD p 0 0) ≡ false
+  pub read-unknown : (p : List ℕ) → 0 < length p → length p ≤ payloadLimit → isFirst (getD p 0 0) ≡ false
       → readInto p bytes numbers ≡ delivery (Refused notIsOrInfo) bytes numbers
   unfolding delivered begun
   read-unknown [] h g e = absurd (omega arith)
   read-unknown (b ∷ bs) h g e = rw (reading-short (b ∷ bs) g, e)
 
-  pub read-known : (p : List ℕ) → 0 < length p → length p ≤ 1024 → isFirst (getD p 0 0) ≡ true
+  pub read-known : (p : List ℕ) → 0 < length p → length p ≤ payloadLimit → isFirst (getD p 0 0) ≡ true
       → readInto p bytes numbers ≡ delivered (distinct (getD p 0 0) (variablesOf (rowOf (drop 1 p)))) bytes numbers
   unfolding begun
   read-known [] h g e = absurd (omega arith)
@@ -55,10 +56,10 @@ pub record AllRead (found : Found) (bytes numbers : List ℕ) (count used : ℕ)
   pub all : List Variable
   pub those : found ≡ variables all
   pub texts : take used bytes ≡ packed all
-  pub records : take (5 * count) numbers ≡ recorded 0 all
+  pub records : take (recordWidth * count) numbers ≡ recorded 0 all
 
 pub name-variables : (found : Found) (count used : ℕ) (before : Buffers) (r : Answered) (after : Buffers) → NameRead found 0 0 before r after → r ≡ Variables count used
-    → (count ≤ variableLimit) × (used ≤ length (after .bytes)) × (5 * count ≤ length (after .numbers)) × AllRead found (after .bytes) (after .numbers) count used
+    → (count ≤ variableLimit) × (used ≤ length (after .bytes)) × (recordWidth * count ≤ length (after .numbers)) × AllRead found (after .bytes) (after .numbers) count used
 unfolding NameRead
 name-variables (fault m) count used before r after is e = let z : _≡_ {A = ℕ} 0 1 = cc in absurd (omega arith)
 name-variables (variables vs) count used before r after is e =
@@ -66,7 +67,7 @@ name-variables (variables vs) count used before r after is e =
     let n : count ≡ 0 + length vs = cc in
     let m : used ≡ 0 + length (packed vs) = cc in
     let all : used ≡ length (packed vs) = omega (arith, m) in
-    let five : 5 * count ≡ length (recorded 0 vs) = omega (arith, n, length-recorded 0 vs) in
+    let five : recordWidth * count ≡ length (recorded 0 vs) = omega (arith, n, length-recorded 0 vs) in
     let read : AllRead (variables vs) (after .bytes) (after .numbers) count used = record {
       all = vs;
       those = refl;
@@ -75,7 +76,7 @@ name-variables (variables vs) count used before r after is e =
     } in (
       omega (arith, n, is .limit),
       omega (arith, all, ap length (read .texts), length-take used (after .bytes)),
-      omega (arith, five, ap length (read .records), length-take (5 * count) (after .numbers)),
+      omega (arith, five, ap length (read .records), length-take (recordWidth * count) (after .numbers)),
       read,
     )
 

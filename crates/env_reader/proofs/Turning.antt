@@ -21,7 +21,7 @@ use Rattle.env_text.proofs.Standing.{row-marked}
 use Rattle.env.specs.Variable.{variable, variableLimit, VAR, USERVAR, isKind}
 use Rattle.env.specs.Fields.{Text, text, broken, Field, nameField, valueField, row, rowOf, joins, stands, escapes, startsName, startsValue}
 use Rattle.env.specs.Read.{Found, variables, fault, addVariable, limited, whole, named, names, expectNoText}
-use Rattle.env.specs.Numbers.{packed, recorded}
+use Rattle.env.specs.Numbers.{listLimit, recordWidth, packed, recorded}
 use Rattle.refusal.specs.Refusal.{noVariable, badEscape, valueInValue, tooManyVariables}
 use Rattle.env.proofs.Rows.{row-kind}
 use Rattle.env.proofs.Holding.{length-recorded}
@@ -83,8 +83,8 @@ with-name kind name (valued v vs) at k bytes₀ numbers₀ r bytes numbers is h 
 -- what is stored from the next name on, with the value before it
 pub with-value : (kind : ℕ) (v : List ℕ) (found : Found) (at n k : ℕ) (bytes₀ numbers₀ : List ℕ) (r : Answered) (bytes numbers : List ℕ)
     → NameRead found (at + n + length v) (k + 1)
-    (buffers (overwrite bytes₀ (at + n) v) (overwrite numbers₀ (5 * k) (kind ∷ at ∷ n ∷ (at + n) ∷ length v ∷ []))) r (buffers bytes numbers)
-    → at + n + length v ≤ length bytes₀ → k < variableLimit → 320 ≤ length numbers₀
+    (buffers (overwrite bytes₀ (at + n) v) (overwrite numbers₀ (recordWidth * k) (kind ∷ at ∷ n ∷ (at + n) ∷ length v ∷ []))) r (buffers bytes numbers)
+    → at + n + length v ≤ length bytes₀ → k < variableLimit → listLimit ≤ length numbers₀
     → ValueRead (followed v found) kind at n k (buffers bytes₀ numbers₀) r (buffers bytes numbers)
 unfolding ValueRead NameRead followed
 with-value kind v (fault m) at n k bytes₀ numbers₀ r bytes numbers is h g room = is
@@ -95,14 +95,14 @@ with-value kind v (variables vs) at n k bytes₀ numbers₀ r bytes numbers is h
     let more = recorded (at + n + length v) vs in
     let count : k + 1 + length vs ≡ k + suc (length vs) = omega arith in
     let used : at + n + length v + length (packed vs) ≡ at + n + length (v ++ packed vs) = omega (arith, length-append v (packed vs)) in
-    let place : 5 * (k + 1) ≡ 5 * k + 5 = omega arith in
-    let list : 5 * k + (5 + length more) ≤ length numbers₀ = omega (arith, is .limit, length-recorded (at + n + length v) vs) in
+    let place : recordWidth * (k + 1) ≡ recordWidth * k + recordWidth = omega arith in
+    let list : recordWidth * k + (recordWidth + length more) ≤ length numbers₀ = omega (arith, is .limit, length-recorded (at + n + length v) vs) in
     record {
       answer = is .answer ∙ rw (count, used);
       limit = omega (arith, is .limit);
       within = rw length-append fit;
       texts = is .texts ∙ overwrite-append bytes₀ (at + n) v (packed vs) fit;
-      records = is .records ∙ rw place (overwrite-append numbers₀ (5 * k) five more list);
+      records = is .records ∙ rw place (overwrite-append numbers₀ (recordWidth * k) five more list);
     }
 
 -- by the first byte of the rest
@@ -153,7 +153,7 @@ name-none found at k b e h g = rw e (record {
   limit = omega arith;
   within = omega arith;
   texts = sym (overwrite-nil (b .bytes) at);
-  records = sym (overwrite-nil (b .numbers) (5 * k));
+  records = sym (overwrite-nil (b .numbers) (recordWidth * k));
 })
 
 names-turn-of : (number k kind : ℕ) (name : List ℕ) (fs : List Field) → k < variableLimit → 0 < length name
@@ -244,9 +244,9 @@ some-value l bytes₀ at t bytes e is = record {
 
 -- a value gives way to the next name
 pub value-turn : (kind at n k : ℕ) (l bytes₀ bytes₁ numbers₀ : List ℕ) (t : Taken) (r : Answered) (bytes numbers : List ℕ)
-    → IsValue l bytes₀ (at + n) t bytes₁ → t .whole ≡ true → at + n + length l ≤ length bytes₀ → k < variableLimit → 320 ≤ length numbers₀
+    → IsValue l bytes₀ (at + n) t bytes₁ → t .whole ≡ true → at + n + length l ≤ length bytes₀ → k < variableLimit → listLimit ≤ length numbers₀
     → NameRead (fromName valueInValue (k + 1) (rowOf (drop (t .end) l))) (at + n + t .length) (k + 1)
-    (buffers bytes₁ (overwrite numbers₀ (5 * k) (kind ∷ at ∷ n ∷ (at + n) ∷ t .length ∷ []))) r (buffers bytes numbers)
+    (buffers bytes₁ (overwrite numbers₀ (recordWidth * k) (kind ∷ at ∷ n ∷ (at + n) ∷ t .length ∷ []))) r (buffers bytes numbers)
     → ValueRead (fromValue k (rowOf l .fields)) kind at n k (buffers bytes₀ numbers₀) r (buffers bytes numbers)
 value-turn kind at n k l bytes₀ bytes₁ numbers₀ t r bytes numbers is w h g room more =
     let found = fromName valueInValue (k + 1) (rowOf (drop (t .end) l)) in

@@ -10,14 +10,20 @@ ghost use Rattle.env_reader.specs.near.Found.{buffers, NameRead};
 ghost use Rattle.env_reader.specs.near.Texts.{givesValue, IsTaken};
 ghost use Rattle.env_reader.specs.near.Turns.{fromName, fromValue, HasRoom, IsValue, ValueRead};
 ghost use Rattle.env_text.specs.Text.{marked};
-ghost use Rattle.env.specs.Variable.{isKind};
+ghost use Rattle.env.specs.Variable.{isKind, variableLimit};
+ghost use Rattle.env.specs.Numbers.{recordWidth, listLimit};
+ghost use Rattle.telnet.specs.Event.{payloadLimit};
 ghost use Rattle.env.specs.Fields.{rowOf};
 ghost use Rattle.octets.specs.Lent.{overwrite};
 ghost use Rattle.env_delivery.specs.Promise.{delivery, delivered, readInto};
 ghost use Rattle.env.specs.Read.{distinct, variablesOf};
+use env::LIST_LIMIT;
+use env::PAYLOAD_LIMIT;
+use env::RECORD_WIDTH;
+use env::VARIABLE_LIMIT;
+use env::VariableRecord;
 use env_delivery::Answer;
-use env_delivery::hand_over;
-use env_records::VariableRecord;
+use env_delivery::deliver;
 use env_records::is_first;
 use env_records::is_kind;
 use env_records::set_record;
@@ -81,8 +87,8 @@ fn take_value(rest: &[u8], bytes: &mut [u8], at: usize) -> Text
 
 // Sets record k: a name of n bytes, and m bytes of its value behind it.
 fn store(numbers: &mut [usize], k: usize, kind: u8, at: usize, n: usize, m: usize)
-    requires { ⌜ (k < 64) × (320 ≤ length (now numbers)) × (at + n ≤ 1024) ⌝ }
-    ensures { λ _. ⌜ now (numbers .exit) ≡ overwrite (now (numbers .entry)) (5 * k) (kind ∷ at ∷ n ∷ (at + n) ∷ m ∷ []) ⌝ }
+    requires { ⌜ (k < variableLimit) × (listLimit ≤ length (now numbers)) × (at + n ≤ payloadLimit) ⌝ }
+    ensures { λ _. ⌜ now (numbers .exit) ≡ overwrite (now (numbers .entry)) (recordWidth * k) (kind ∷ at ∷ n ∷ (at + n) ∷ m ∷ []) ⌝ }
 {
     let record = VariableRecord {
         kind: kind as usize,
@@ -119,7 +125,7 @@ fn name(
     if !opens(kind) {
         return Found::Fault(NO_VARIABLE);
     }
-    if k == 64 {
+    if k == VARIABLE_LIMIT {
         return Found::Fault(TOO_MANY_VARIABLES);
     }
     let t = take_text(rest, bytes, at);
@@ -167,9 +173,13 @@ fn value(
 }
 
 // Finds the variables of what stands behind the first byte of a payload. Names and values without their ESCs go back to back into the buffer, and
-// their records, five numbers each, into the list: room for as many as 1,024 bytes can hold.
-fn find_variables(rest: &[u8], texts: &mut [u8; 1024], records: &mut [usize; 320]) -> Found
-    requires { ⌜ length (now rest) ≤ 1024 ⌝ }
+// their records into the list: room for as many as a payload can hold.
+fn find_variables(
+    rest: &[u8],
+    texts: &mut [u8; PAYLOAD_LIMIT],
+    records: &mut [usize; LIST_LIMIT],
+) -> Found
+    requires { ⌜ length (now rest) ≤ payloadLimit ⌝ }
     ensures { λ r. ⌜
         NameRead (variablesOf (rowOf (now (rest .entry)))) 0 0
         (buffers (now (texts .entry)) (now (records .entry))) r (buffers (now (texts .exit)) (now (records .exit)))
@@ -180,23 +190,23 @@ fn find_variables(rest: &[u8], texts: &mut [u8; 1024], records: &mut [usize; 320
 
 // Reads the variables behind the first byte of a payload, and hands them over.
 fn read_variables(first: u8, rest: &[u8], bytes: &mut [u8], numbers: &mut [usize]) -> Answer
-    requires { ⌜ length (now rest) ≤ 1024 ⌝ }
+    requires { ⌜ length (now rest) ≤ payloadLimit ⌝ }
     ensures { λ r. ⌜
         delivery r (now (bytes .exit)) (now (numbers .exit))
         ≡ delivered (distinct first (variablesOf (rowOf (now (rest .entry))))) (now (bytes .entry)) (now (numbers .entry))
         ⌝ }
 {
-    let mut texts = [0u8; 1024];
-    let mut records = [0usize; 320];
+    let mut texts = [0u8; PAYLOAD_LIMIT];
+    let mut records = [0usize; LIST_LIMIT];
     match find_variables(rest, &mut texts, &mut records) {
         Found::Fault(n) => {
             return Answer::Refused(n);
         }
         Found::Variables(count, used) => {
-            return hand_over(
+            return deliver(
                 first,
                 &texts[0..used],
-                &records[0..5 * count],
+                &records[0..RECORD_WIDTH * count],
                 bytes,
                 numbers,
             );
@@ -204,11 +214,11 @@ fn read_variables(first: u8, rest: &[u8], bytes: &mut [u8], numbers: &mut [usize
     }
 }
 
-// Reads a payload. Names and values without their ESCs go back to back into the buffer, and their records, five numbers each, into the list.
+// Reads a payload. Names and values without their ESCs go back to back into the buffer, and their records into the list.
 pub fn read(payload: &[u8], bytes: &mut [u8], numbers: &mut [usize]) -> Answer
     ensures { λ r. ⌜ delivery r (now (bytes .exit)) (now (numbers .exit)) ≡ readInto (now (payload .entry)) (now (bytes .entry)) (now (numbers .entry)) ⌝ }
 {
-    if payload.len() > 1024 {
+    if payload.len() > PAYLOAD_LIMIT {
         return Answer::Refused(PAYLOAD_TOO_LONG);
     }
     if payload.len() == 0 {

@@ -7,10 +7,11 @@ use native.Mathlib.Numerals.{add-one}
 use native.Mathlib.Omega.{arith}
 use lib.ListN.{length, getD, drop}
 use lib.Seq.{drop-cons}
+use Rattle.env.specs.Numbers.{recordWidth}
 
 -- what holds of the lists of no more than four numbers holds of a list of fewer than five
 pub few : (P : List ℕ → Type 0) → P [] → ((k : ℕ) → P (k ∷ [])) → ((k a : ℕ) → P (k ∷ a ∷ [])) → ((k a n : ℕ) → P (k ∷ a ∷ n ∷ []))
-    → ((k a n b : ℕ) → P (k ∷ a ∷ n ∷ b ∷ [])) → (l : List ℕ) → length l < 5 → P l
+    → ((k a n b : ℕ) → P (k ∷ a ∷ n ∷ b ∷ [])) → (l : List ℕ) → length l < recordWidth → P l
 few P none one two three four [] h = none
 few P none one two three four (k ∷ []) h = one k
 few P none one two three four (k ∷ a ∷ []) h = two k a
@@ -26,6 +27,6 @@ next : (l : List ℕ) (i j : ℕ) → i + j < length l → drop (i + j) l ≡ ge
 next l i j h = rw (← add-assoc) (first l (i + j) h)
 
 -- the five numbers at a place, and those behind them
-pub five : (l : List ℕ) (i : ℕ) → i + 5 ≤ length l
-    → drop i l ≡ getD l i 0 ∷ getD l (i + 1) 0 ∷ getD l (i + 2) 0 ∷ getD l (i + 3) 0 ∷ getD l (i + 4) 0 ∷ drop (i + 5) l
+pub five : (l : List ℕ) (i : ℕ) → i + recordWidth ≤ length l
+    → drop i l ≡ getD l i 0 ∷ getD l (i + 1) 0 ∷ getD l (i + 2) 0 ∷ getD l (i + 3) 0 ∷ getD l (i + 4) 0 ∷ drop (i + recordWidth) l
 five l i h = rw (first l i (omega arith), next l i 1 (omega arith), next l i 2 (omega arith), next l i 3 (omega arith), next l i 4 (omega arith))

@@ -2,14 +2,15 @@
 -- Assumes nothing.
 use mathlib.Core.Path.{_≡_, refl, sym, ap, _∙_}
 use mathlib.Core.Bool.{Bool, true, false, _||_}
-use mathlib.Core.List.{List, [], _∷_}
+use mathlib.Core.List.{List, [], _∷_, map}
 use Prim.Native.Nat.{ℕ}
 use Rattle.env_records.specs.declared.ValuePlace.{ValuePlace}
 use Rattle.env_records.specs.declared.ValuePlace.the-variants.{Absent, At}
-use Rattle.env_records.specs.Records.{recordOf, variableOf, placeOf}
+use Rattle.env_records.specs.Records.{placeIn, placeOf}
 use Rattle.env_records.specs.Theorems.{valueAt, FindsTheValue, AbsentWhereNone}
-use Rattle.env.specs.Variable.{Lookup, present, is, among, lookup}
-use Rattle.env.specs.Numbers.{part, held}
+use Rattle.env.specs.Variable.{Lookup, present, is, among, lookup, valueOr}
+use Rattle.env.specs.declared.VariableRecord.{VariableRecord}
+use Rattle.env.specs.Numbers.{part, recordsOf, variableOf, held}
 use Rattle.octets.specs.Choice.{if_then_else_}
 
 value-of : (bytes : List ℕ) (a n : ℕ) (test : Bool) (behind : ValuePlace) (rest : Lookup) → valueAt bytes behind ≡ rest
@@ -18,16 +19,17 @@ unfolding valueAt
 value-of bytes a n true behind rest e = refl
 value-of bytes a n false behind rest e = e
 
+finds-in : (kind : ℕ) (name bytes : List ℕ) (rs : List VariableRecord)
+    → valueAt bytes (placeIn kind name bytes rs) ≡ lookup kind name (map (variableOf bytes) rs)
+unfolding valueAt placeIn lookup
+finds-in kind name bytes [] = refl
+finds-in kind name bytes (r ∷ rs) =
+    value-of bytes (r .«value_at») (r .«value_length») (is kind name (variableOf bytes r)) (placeIn kind name bytes rs)
+    (lookup kind name (map (variableOf bytes) rs)) (finds-in kind name bytes rs)
+
 pub finds-the-value : FindsTheValue
-unfolding valueAt placeOf lookup held
-finds-the-value kind name bytes [] = refl
-finds-the-value kind name bytes (k ∷ []) = refl
-finds-the-value kind name bytes (k ∷ a ∷ []) = refl
-finds-the-value kind name bytes (k ∷ a ∷ n ∷ []) = refl
-finds-the-value kind name bytes (k ∷ a ∷ n ∷ b ∷ []) = refl
-finds-the-value kind name bytes (k ∷ a ∷ n ∷ b ∷ m ∷ numbers) =
-    value-of bytes b m (is kind name (variableOf bytes (recordOf k a n b m))) (placeOf kind name bytes numbers) (lookup kind name (held bytes numbers))
-    (finds-the-value kind name bytes numbers)
+unfolding placeOf held
+finds-the-value kind name bytes numbers = finds-in kind name bytes (recordsOf numbers)
 
 -- whether a value has a place
 unfoldable pub there : ValuePlace → Bool
@@ -39,16 +41,17 @@ unfolding there
 there-of a n true behind rest e = refl
 there-of a n false behind rest e = e
 
+there-in : (kind : ℕ) (name bytes : List ℕ) (rs : List VariableRecord)
+    → there (placeIn kind name bytes rs) ≡ among kind name (map (variableOf bytes) rs)
+unfolding there placeIn among
+there-in kind name bytes [] = refl
+there-in kind name bytes (r ∷ rs) =
+    there-of (r .«value_at») (r .«value_length») (is kind name (variableOf bytes r)) (placeIn kind name bytes rs)
+    (among kind name (map (variableOf bytes) rs)) (there-in kind name bytes rs)
+
 pub there-among : (kind : ℕ) (name bytes numbers : List ℕ) → there (placeOf kind name bytes numbers) ≡ among kind name (held bytes numbers)
-unfolding there placeOf among held
-there-among kind name bytes [] = refl
-there-among kind name bytes (k ∷ []) = refl
-there-among kind name bytes (k ∷ a ∷ []) = refl
-there-among kind name bytes (k ∷ a ∷ n ∷ []) = refl
-there-among kind name bytes (k ∷ a ∷ n ∷ b ∷ []) = refl
-there-among kind name bytes (k ∷ a ∷ n ∷ b ∷ m ∷ numbers) =
-    there-of b m (is kind name (variableOf bytes (recordOf k a n b m))) (placeOf kind name bytes numbers) (among kind name (held bytes numbers))
-    (there-among kind name bytes numbers)
+unfolding placeOf held
+there-among kind name bytes numbers = there-in kind name bytes (recordsOf numbers)
 
 nowhere : (p : ValuePlace) → there p ≡ false → p ≡ Absent
 unfolding there
@@ -60,3 +63,9 @@ unfolding there
 absent-where-none kind name bytes numbers =
     let e = there-among kind name bytes numbers in
     ((λ h. sym e ∙ ap there h), (λ h. nowhere (placeOf kind name bytes numbers) (e ∙ h)))
+
+-- the value at the place that a look-up finds, empty where it finds none
+pub value-found : (kind : ℕ) (name bytes numbers : List ℕ) (p q : ValuePlace) → p ≡ placeOf kind name bytes numbers → p ≡ q
+    → valueOr [] (valueAt bytes q) ≡ valueOr [] (lookup kind name (held bytes numbers))
+value-found kind name bytes numbers p q e told =
+    ap (valueOr []) (ap (valueAt bytes) (sym told ∙ e) ∙ finds-the-value kind name bytes numbers)

@@ -5,6 +5,7 @@ use Prim.Native.Nat.{ℕ, suc, _+_, _≤_}
 use native.Mathlib.Nat.{add-assoc}
 use native.Mathlib.Omega.{arith}
 use lib.ListN.{length, set, length-set}
+use Rattle.env.specs.Numbers.{recordWidth}
 use Rattle.octets.specs.Lent.{overwrite}
 use Rattle.octets.proofs.Overwrite.{overwrite-cons, overwrite-one}
 
@@ -13,7 +14,7 @@ next : (l : List ℕ) (k j b : ℕ) (y : List ℕ) → k + j + suc (length y) �
     → overwrite l (k + j) (b ∷ y) ≡ overwrite (set l (k + j) b) (k + (j + 1)) y
 next l k j b y h = rw (← add-assoc) (sym (overwrite-cons l (k + j) b y h))
 
-pub five-stored : (l : List ℕ) (i a b c d e : ℕ) → i + 5 ≤ length l
+pub five-stored : (l : List ℕ) (i a b c d e : ℕ) → i + recordWidth ≤ length l
     → set (set (set (set (set l i a) (i + 1) b) (i + 2) c) (i + 3) d) (i + 4) e ≡ overwrite l i (a ∷ b ∷ c ∷ d ∷ e ∷ [])
 five-stored l i a b c d e h =
     sym (

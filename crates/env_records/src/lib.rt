@@ -1,22 +1,16 @@
-// The list of variable records over a slice of numbers: five numbers for each record.
+// The list of variable records over a slice of numbers, so many for each record.
 ghost use mathlib.Core.Path.{_≡_};
+ghost use mathlib.Core.List.{[]};
 ghost use Prim.Native.Nat.{_+_, _-_, _*_, _/_, _<_, min};
 ghost use lib.Dec.{leb};
 ghost use lib.ListN.{length, drop};
-ghost use Rattle.env_records.specs.Records.{recordAt, numbersOf, variableOf, placeOf};
-ghost use Rattle.env.specs.Variable.{isFirst, isKind, is, among, repeated};
-ghost use Rattle.env.specs.Numbers.{held};
+ghost use Rattle.env_records.specs.Records.{recordAt, placeOf};
+ghost use Rattle.env.specs.Variable.{isFirst, isKind, is, among, repeated, lookup, valueOr};
+ghost use Rattle.env.specs.Numbers.{recordWidth, numbersOf, part, variableOf, held};
 ghost use Rattle.octets.specs.Lent.{outcome};
 ghost use Rattle.octets.specs.Promise.{putAt};
-
-// A variable record: VAR or USERVAR, and where its name and its value stand in a buffer.
-pub struct VariableRecord {
-    pub kind: usize,
-    pub name_at: usize,
-    pub name_length: usize,
-    pub value_at: usize,
-    pub value_length: usize,
-}
+use env::RECORD_WIDTH;
+use env::VariableRecord;
 
 // Where a value stands in a buffer, and its length.
 pub enum ValuePlace {
@@ -55,10 +49,10 @@ pub fn record_at(numbers: &[usize], i: usize) -> VariableRecord
         value_at: 0,
         value_length: 0,
     };
-    if i >= numbers.len() / 5 {
+    if i >= numbers.len() / RECORD_WIDTH {
         return blank;
     }
-    let at = 5 * i;
+    let at = RECORD_WIDTH * i;
     VariableRecord {
         kind: numbers[at],
         name_at: numbers[at + 1],
@@ -70,12 +64,12 @@ pub fn record_at(numbers: &[usize], i: usize) -> VariableRecord
 
 // Sets record i of a list; false, and nothing is set, where the list is too short.
 pub fn set_record(numbers: &mut [usize], i: usize, v: VariableRecord) -> bool
-    ensures { λ r. ⌜ outcome r (now (numbers .exit)) ≡ putAt (numbersOf v) (now (numbers .entry)) (5 * i) ⌝ }
+    ensures { λ r. ⌜ outcome r (now (numbers .exit)) ≡ putAt (numbersOf v) (now (numbers .entry)) (recordWidth * i) ⌝ }
 {
-    if numbers.len() / 5 <= i {
+    if numbers.len() / RECORD_WIDTH <= i {
         return false;
     }
-    let k = 5 * i;
+    let k = RECORD_WIDTH * i;
     numbers[k] = v.kind;
     numbers[k + 1] = v.name_at;
     numbers[k + 2] = v.name_length;
@@ -109,6 +103,15 @@ fn part_end(length: usize, at: usize, n: usize) -> usize
     start + clipped(n, length - start)
 }
 
+// So many bytes from a place on, or what there is of them.
+pub fn text(bytes: &[u8], at: usize, n: usize) -> &[u8]
+    ensures { λ r. ⌜ now r ≡ part (now (bytes .entry)) at n ⌝ }
+{
+    let start = clipped(at, bytes.len());
+    let end = part_end(bytes.len(), at, n);
+    &bytes[start..end]
+}
+
 // Whether a record is of a kind and name.
 fn is_of(bytes: &[u8], v: VariableRecord, kind: usize, name: &[u8]) -> bool
     ensures { λ r. ⌜ r ≡ is kind (now (name .entry)) (variableOf (now (bytes .entry)) v) ⌝ }
@@ -116,9 +119,7 @@ fn is_of(bytes: &[u8], v: VariableRecord, kind: usize, name: &[u8]) -> bool
     if kind != v.kind {
         return false;
     }
-    let start = clipped(v.name_at, bytes.len());
-    let end = part_end(bytes.len(), v.name_at, v.name_length);
-    octets::same(name, &bytes[start..end])
+    octets::same(name, text(bytes, v.name_at, v.name_length))
 }
 
 // Where the value stands of the first record of a kind and name.
@@ -126,7 +127,7 @@ pub fn find(bytes: &[u8], numbers: &[usize], kind: usize, name: &[u8]) -> ValueP
     ensures { λ r. ⌜ r ≡ placeOf kind (now (name .entry)) (now (bytes .entry)) (now (numbers .entry)) ⌝ }
 {
     let mut i = 0;
-    while i < numbers.len() / 5 {
+    while i < numbers.len() / RECORD_WIDTH {
         let v = record_at(numbers, i);
         if is_of(bytes, v, kind, name) {
             return ValuePlace::At(v.value_at, v.value_length);
@@ -136,20 +137,29 @@ pub fn find(bytes: &[u8], numbers: &[usize], kind: usize, name: &[u8]) -> ValueP
     ValuePlace::Absent
 }
 
+// The value of the first record of a kind and name; empty where there is none, which `find` tells apart from an empty value.
+pub fn value_of<'a>(bytes: &'a [u8], numbers: &[usize], kind: usize, name: &[u8]) -> &'a [u8]
+    ensures { λ r. ⌜ now r ≡ valueOr [] (lookup kind (now (name .entry)) (held (now (bytes .entry)) (now (numbers .entry)))) ⌝ }
+{
+    match find(bytes, numbers, kind, name) {
+        ValuePlace::Absent => text(bytes, 0, 0),
+        ValuePlace::At(at, n) => text(bytes, at, n),
+    }
+}
+
 // Whether a record behind record i is of the same kind and name.
 fn occurs_behind(bytes: &[u8], numbers: &[usize], i: usize) -> bool
-    requires { ⌜ i < length (now numbers) / 5 ⌝ }
+    requires { ⌜ i < length (now numbers) / recordWidth ⌝ }
     ensures { λ r. ⌜
         (let v = variableOf (now (bytes .entry)) (recordAt (now (numbers .entry)) i) in
-        r ≡ among (v .kind) (v .name) (held (now (bytes .entry)) (drop (5 * (i + 1)) (now (numbers .entry)))))
+        r ≡ among (v .kind) (v .name) (held (now (bytes .entry)) (drop (recordWidth * (i + 1)) (now (numbers .entry)))))
         ⌝ }
 {
     let v = record_at(numbers, i);
-    let start = clipped(v.name_at, bytes.len());
-    let end = part_end(bytes.len(), v.name_at, v.name_length);
-    let next = 5 * (i + 1);
+    let name = text(bytes, v.name_at, v.name_length);
+    let next = RECORD_WIDTH * (i + 1);
     let length = numbers.len();
-    let place = find(bytes, &numbers[next..length], v.kind, &bytes[start..end]);
+    let place = find(bytes, &numbers[next..length], v.kind, name);
     match place {
         ValuePlace::Absent => false,
         ValuePlace::At(_, _) => true,
@@ -161,7 +171,7 @@ pub fn repeats(bytes: &[u8], numbers: &[usize]) -> bool
     ensures { λ r. ⌜ r ≡ repeated (held (now (bytes .entry)) (now (numbers .entry))) ⌝ }
 {
     let mut i = 0;
-    while i < numbers.len() / 5 {
+    while i < numbers.len() / RECORD_WIDTH {
         if occurs_behind(bytes, numbers, i) {
             return true;
         }

@@ -1,3 +1,4 @@
 pub mod Writing
 pub mod WritingRecords
 pub mod WritingAnswer
+pub mod Meaning

@@ -10,7 +10,7 @@ use Rattle.env_writer.specs.declared.Written.the-variants.{Wrote, Refuse
 use Rattle.env_writer.specs.Promise.{put, writeInto}
 use Rattle.env.specs.Variable.{isFirst, variableLimit, repeated}
 use Rattle.env.specs.Write.{none, against, nameless, objection, payloadOf, writtenVariables}
-use Rattle.env.specs.Numbers.{held, placed}
+use Rattle.env.specs.Numbers.{recordWidth, held, placed}
 use Rattle.env_records.proofs.Held.{length-held}
 use Rattle.telnet.specs.Event.{payloadLimit}
 use Rattle.refusal.specs.Refusal.{payloadTooLong, noRoom, notIsOrInfo, noVariable, tooManyVariables, repeatedVariable, badVariableRecord}
@@ -36,18 +36,18 @@ module _ (first : ℕ) (bytes l out : List ℕ) (e : isFirst first ≡ true) (p 
   unfolding objection
   no-name n = notRead (rw n)
 
-  pub too-many : nameless (held bytes l) ≡ false → variableLimit < length l / 5 → outcome (Refused tooManyVariables) out ≡ writeInto first bytes l out
+  pub too-many : nameless (held bytes l) ≡ false → variableLimit < length l / recordWidth → outcome (Refused tooManyVariables) out ≡ writeInto first bytes l out
   unfolding objection
   too-many n m = notRead (rw (n, lt-ltb variableLimit (length (held bytes l)) (omega (arith, length-held bytes l))))
 
-  pub twice : nameless (held bytes l) ≡ false → length l / 5 ≤ variableLimit → repeated (held bytes l) ≡ true
+  pub twice : nameless (held bytes l) ≡ false → length l / recordWidth ≤ variableLimit → repeated (held bytes l) ≡ true
       → outcome (Refused repeatedVariable) out ≡ writeInto first bytes l out
   unfolding objection
   twice n m r = notRead (rw (n, le-ltb variableLimit (length (held bytes l)) (omega (arith, length-held bytes l)), r))
 
 -- good records and nothing against their variables but, perhaps, the length of the payload, which is measured up to one past the limit
 module _ (first : ℕ) (bytes l out : List ℕ) (e : isFirst first ≡ true) (p : placed bytes l ≡ true)
-    (n : nameless (held bytes l) ≡ false) (m : length l / 5 ≤ variableLimit) (r : repeated (held bytes l) ≡ false)
+    (n : nameless (held bytes l) ≡ false) (m : length l / recordWidth ≤ variableLimit) (r : repeated (held bytes l) ≡ false)
     (k : ℕ) (measured : k ≡ min (payloadLimit + 1) (1 + length (writtenVariables (held bytes l)))) where
   few : length (held bytes l) ≤ variableLimit
   few = omega (arith, length-held bytes l)

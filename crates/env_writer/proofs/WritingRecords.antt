@@ -1,7 +1,7 @@
 -- The laws by which the writer walks a list of records: what a good record says, and its variable, before those behind it.
 -- Assumes nothing.
 use mathlib.Core.Path.{_≡_, refl, sym, ap, _∙_}
-use mathlib.Core.Bool.{Bool, true, false, _&&_, _||_, and-true}
+use mathlib.Core.Bool.{Bool, true, false, _&&_, _||_}
 use mathlib.Core.List.{List, [], _∷_, _++_}
 use Prim.Native.Nat.{ℕ, _+_, _-_, _*_, _/_, _≤_, _<_}
 use native.Mathlib.Omega.{arith}
@@ -10,9 +10,9 @@ use lib.ListN.{length, take, drop, length-append, length-take, length-drop}
 use borrow.Author.Tests.{eq-eqb, ne-eqb, eqb-true, leb-true}
 use Rattle.env.specs.Variable.{VAR, ESC, USERVAR, isKind}
 use Rattle.env.specs.Write.{escaped, writtenVariable, writtenVariables, isEmpty, nameless}
-use Rattle.env.specs.Numbers.{part, held, fits, placed}
-use Rattle.env_records.specs.declared.VariableRecord.{VariableRecord}
-use Rattle.env_records.specs.Records.{recordAt, numbersOf, variableOf}
+use Rattle.env.specs.Numbers.{recordWidth, variableOf, part, held, fits, isPlaced, placed}
+use Rattle.env.specs.declared.VariableRecord.{VariableRecord}
+use Rattle.env_records.specs.Records.{recordAt}
 use Rattle.env_records.proofs.Steps.{held-step, held-end, placed-step}
 use Rattle.octets_marked.specs.Marked.{marked}
 use Rattle.env_writer.proofs.Writing.{escaped-marked}
@@ -35,10 +35,10 @@ pub record Within (bytes : List ℕ) (r : VariableRecord) : Type 0 where
   pub name : r .«name_at» + r .«name_length» ≤ length bytes
   pub value : r .«value_at» + r .«value_length» ≤ length bytes
 
-pub within : (bytes : List ℕ) (r : VariableRecord) → placed bytes (numbersOf r) ≡ true → Within bytes r
-unfolding placed fits
+pub within : (bytes : List ℕ) (r : VariableRecord) → isPlaced bytes r ≡ true → Within bytes r
+unfolding fits
 within bytes r e =
-    let places = both (isKind (r .kind)) _ (rw and-true at e) in
+    let places = both (isKind (r .kind)) _ e in
     let texts = both (fits bytes (r .«name_at») (r .«name_length»)) _ (places .1) in
     record { kind = kind-small (r .kind) (places .0); name = leb-true _ _ (texts .0); value = leb-true _ _ (texts .1) }
 
@@ -72,40 +72,35 @@ length-written bytes r = simp length-append (omega arith)
 
 module _ (bytes l : List ℕ) (i : ℕ) where
   -- the records from i on are good where record i is, and those behind it are
-  pub placed-from : i < length l / 5
-      → placed bytes (drop (5 * i) l) ≡ (placed bytes (numbersOf (recordAt l i)) && placed bytes (drop (5 * (i + 1)) l))
-  unfolding placed
-  placed-from h = placed-step bytes l i h ∙ rw and-true
-
-  pub good-from : i < length l / 5 → placed bytes (drop (5 * i) l) ≡ true
-      → (placed bytes (numbersOf (recordAt l i)) ≡ true) × (placed bytes (drop (5 * (i + 1)) l) ≡ true)
-  good-from h e = both _ _ (sym (placed-from h) ∙ e)
+  pub good-from : i < length l / recordWidth → placed bytes (drop (recordWidth * i) l) ≡ true
+      → (isPlaced bytes (recordAt l i) ≡ true) × (placed bytes (drop (recordWidth * (i + 1)) l) ≡ true)
+  good-from h e = both _ _ (sym (placed-step bytes l i h) ∙ e)
 
   -- the variables from record i on
-  pub written-from : i < length l / 5
-      → writtenVariables (held bytes (drop (5 * i) l)) ≡ writtenVariable (variableOf bytes (recordAt l i)) ++ writtenVariables (held bytes (drop (5 * (i + 1)) l))
+  pub written-from : i < length l / recordWidth
+      → writtenVariables (held bytes (drop (recordWidth * i) l)) ≡ writtenVariable (variableOf bytes (recordAt l i)) ++ writtenVariables (held bytes (drop (recordWidth * (i + 1)) l))
   unfolding writtenVariables
   written-from h = ap writtenVariables (held-step bytes l i h)
 
-  pub length-written-from : i < length l / 5
-      → length (writtenVariables (held bytes (drop (5 * i) l)))
-      ≡ length (writtenVariable (variableOf bytes (recordAt l i))) + length (writtenVariables (held bytes (drop (5 * (i + 1)) l)))
+  pub length-written-from : i < length l / recordWidth
+      → length (writtenVariables (held bytes (drop (recordWidth * i) l)))
+      ≡ length (writtenVariable (variableOf bytes (recordAt l i))) + length (writtenVariables (held bytes (drop (recordWidth * (i + 1)) l)))
   length-written-from h = ap length (written-from h) ∙ length-append (writtenVariable (variableOf bytes (recordAt l i))) _
 
-  pub written-none : length l / 5 ≤ i → writtenVariables (held bytes (drop (5 * i) l)) ≡ []
+  pub written-none : length l / recordWidth ≤ i → writtenVariables (held bytes (drop (recordWidth * i) l)) ≡ []
   unfolding writtenVariables
   written-none h = ap writtenVariables (held-end bytes l i h)
 
   -- one of them is nameless: record i, or one behind it
-  pub nameless-from : i < length l / 5 → placed bytes (drop (5 * i) l) ≡ true
-      → nameless (held bytes (drop (5 * i) l)) ≡ (eqb (recordAt l i .«name_length») 0 || nameless (held bytes (drop (5 * (i + 1)) l)))
+  pub nameless-from : i < length l / recordWidth → placed bytes (drop (recordWidth * i) l) ≡ true
+      → nameless (held bytes (drop (recordWidth * i) l)) ≡ (eqb (recordAt l i .«name_length») 0 || nameless (held bytes (drop (recordWidth * (i + 1)) l)))
   unfolding nameless
   nameless-from h e =
       let r = recordAt l i in
       ap nameless (held-step bytes l i h)
-      ∙ ap (λ t. t || nameless (held bytes (drop (5 * (i + 1)) l)))
+      ∙ ap (λ t. t || nameless (held bytes (drop (recordWidth * (i + 1)) l)))
       (empty-part bytes (r .«name_at») (r .«name_length») (within bytes r (good-from h e .0) .name))
 
-  pub nameless-none : length l / 5 ≤ i → nameless (held bytes (drop (5 * i) l)) ≡ false
+  pub nameless-none : length l / recordWidth ≤ i → nameless (held bytes (drop (recordWidth * i) l)) ≡ false
   unfolding nameless
   nameless-none h = ap nameless (held-end bytes l i h)

@@ -6,12 +6,17 @@ ghost use mathlib.Core.List.{List};
 ghost use Prim.Native.Nat.{ℕ, _+_, min, _≤_};
 ghost use lib.ListN.{length};
 ghost use Rattle.env.specs.Write.{escaped, writtenVariable, writtenVariables, nameless};
-ghost use Rattle.env.specs.Numbers.{held, placed};
-ghost use Rattle.env_records.specs.Records.{numbersOf, variableOf};
+ghost use Rattle.env.specs.Numbers.{variableOf, held, isPlaced, placed};
 ghost use Rattle.telnet.specs.Event.{payloadLimit};
 ghost use Rattle.octets.specs.Lent.{outcome, overwrite};
 ghost use Rattle.env_writer.specs.Promise.{writeInto};
-use env_records::VariableRecord;
+use env::PAYLOAD_LIMIT;
+use env::RECORD_WIDTH;
+use env::VARIABLE_LIMIT;
+use env::VariableRecord;
+
+// What stands for every length that is past the limit.
+const TOO_LONG: usize = PAYLOAD_LIMIT + 1;
 
 // A payload that was written: its length; or the number by which it is refused.
 pub enum Written {
@@ -21,7 +26,7 @@ pub enum Written {
 
 // Whether a record is a VAR or a USERVAR, with its name and its value in the buffer.
 fn is_placed(bytes: &[u8], v: VariableRecord) -> bool
-    ensures { λ r. ⌜ r ≡ placed (now (bytes .entry)) (numbersOf v) ⌝ }
+    ensures { λ r. ⌜ r ≡ isPlaced (now (bytes .entry)) v ⌝ }
 {
     if !env_records::is_kind(v.kind) {
         return false;
@@ -37,7 +42,7 @@ fn all_placed(bytes: &[u8], numbers: &[usize]) -> bool
     ensures { λ r. ⌜ r ≡ placed (now (bytes .entry)) (now (numbers .entry)) ⌝ }
 {
     let mut i = 0;
-    while i < numbers.len() / 5 {
+    while i < numbers.len() / RECORD_WIDTH {
         if !is_placed(bytes, env_records::record_at(numbers, i)) {
             return false;
         }
@@ -51,7 +56,7 @@ fn any_nameless(numbers: &[usize]) -> bool
     ensures { λ r. ⌜ ((bytes : List ℕ) → placed bytes (now (numbers .entry)) ≡ true → r ≡ nameless (held bytes (now (numbers .entry)))) ⌝ }
 {
     let mut i = 0;
-    while i < numbers.len() / 5 {
+    while i < numbers.len() / RECORD_WIDTH {
         let v = env_records::record_at(numbers, i);
         if v.name_length == 0 {
             return true;
@@ -67,19 +72,19 @@ fn longer(n: usize, text: &[u8]) -> usize
     requires { ⌜ n ≤ payloadLimit + 3 ⌝ }
     ensures { λ r. ⌜ r ≡ min (payloadLimit + 1) (n + length (escaped (now (text .entry)))) ⌝ }
 {
-    if 1024 < text.len() {
-        return 1025;
+    if PAYLOAD_LIMIT < text.len() {
+        return TOO_LONG;
     }
     let m = n + octets_marked::marked_length(text, 0, 3);
-    if 1024 < m {
-        return 1025;
+    if PAYLOAD_LIMIT < m {
+        return TOO_LONG;
     }
     m
 }
 
 // A length with a variable behind it, counted likewise.
 fn longer_by_variable(n: usize, bytes: &[u8], v: VariableRecord) -> usize
-    requires { ⌜ (n ≤ payloadLimit + 1) × (placed (now bytes) (numbersOf v) ≡ true) ⌝ }
+    requires { ⌜ (n ≤ payloadLimit + 1) × (isPlaced (now bytes) v ≡ true) ⌝ }
     ensures { λ r. ⌜ r ≡ min (payloadLimit + 1) (n + length (writtenVariable (variableOf (now (bytes .entry)) v))) ⌝ }
 {
     let name = v.name_at;
@@ -97,8 +102,8 @@ fn measure(bytes: &[u8], numbers: &[usize]) -> usize
 {
     let mut n = 1;
     let mut i = 0;
-    while i < numbers.len() / 5 {
-        if 1024 < n {
+    while i < numbers.len() / RECORD_WIDTH {
+        if PAYLOAD_LIMIT < n {
             return n;
         }
         n = longer_by_variable(n, bytes, env_records::record_at(numbers, i));
@@ -109,7 +114,7 @@ fn measure(bytes: &[u8], numbers: &[usize]) -> usize
 
 // Puts a variable at a place; the answer is the place behind it.
 fn put_variable(bytes: &[u8], v: VariableRecord, out: &mut [u8], at: usize) -> usize
-    requires { ⌜ (placed (now bytes) (numbersOf v) ≡ true) × (at + length (writtenVariable (variableOf (now bytes) v)) ≤ length (now out)) ⌝ }
+    requires { ⌜ (isPlaced (now bytes) v ≡ true) × (at + length (writtenVariable (variableOf (now bytes) v)) ≤ length (now out)) ⌝ }
     ensures { λ r. ⌜ (r ≡ at + length (writtenVariable (variableOf (now (bytes .entry)) v)))
         × (now (out .exit) ≡ overwrite (now (out .entry)) at (writtenVariable (variableOf (now (bytes .entry)) v))) ⌝ }
 {
@@ -130,14 +135,13 @@ fn put_all(bytes: &[u8], numbers: &[usize], out: &mut [u8])
 {
     let mut i = 0;
     let mut at = 1;
-    while i < numbers.len() / 5 {
+    while i < numbers.len() / RECORD_WIDTH {
         at = put_variable(bytes, env_records::record_at(numbers, i), out, at);
         i += 1;
     }
 }
 
-// Writes a first byte, and the variables that records have over `bytes`, to the front of `out`: five numbers a record, its kind, place and
-// length of its name, place and length of its value. A refusal leaves `out` as it was.
+// Writes a first byte, and the variables that records have over `bytes`, to the front of `out`. A refusal leaves `out` as it was.
 pub fn write(first: u8, bytes: &[u8], numbers: &[usize], out: &mut [u8]) -> Written
     ensures { λ r. ⌜ outcome r (now (out .exit)) ≡ writeInto first (now (bytes .entry)) (now (numbers .entry)) (now (out .entry)) ⌝ }
 {
@@ -150,14 +154,14 @@ pub fn write(first: u8, bytes: &[u8], numbers: &[usize], out: &mut [u8]) -> Writ
     if any_nameless(numbers) {
         return Written::Refused(refusal::NO_VARIABLE);
     }
-    if 64 < numbers.len() / 5 {
+    if VARIABLE_LIMIT < numbers.len() / RECORD_WIDTH {
         return Written::Refused(refusal::TOO_MANY_VARIABLES);
     }
     if env_records::repeats(bytes, numbers) {
         return Written::Refused(refusal::REPEATED_VARIABLE);
     }
     let length = measure(bytes, numbers);
-    if 1024 < length {
+    if PAYLOAD_LIMIT < length {
         return Written::Refused(refusal::PAYLOAD_TOO_LONG);
     }
     if out.len() < length {

@@ -6,6 +6,8 @@ use Rattle.telnet.proofs.Between.{record-is-all-data, record-reads-back}
 use Rattle.print_ledger.proofs.OnTheLine.{print-complete-reads-back, print-complete-is-a-frame}
 use Rattle.env.proofs.ReadingBack.{reads-back as variables-read-back, reads-the-same}
 use Rattle.env.proofs.Holding.{holds-again}
+use Rattle.env_delivery.proofs.Meaning.{read-is-held, room-suffices}
+use Rattle.env_writer.proofs.Meaning.{wrote-reads-back}
 use Rattle.env_list.proofs.Meaning.{lists-the-variables}
 use Rattle.claims.proofs.round_trips.Statement.{statement}
 use Rattle.claims.proofs.round_trips.Tie as tie
@@ -23,6 +25,9 @@ returns c = record {
   variablesReadBack = variables-read-back;
   variablesReadTheSame = reads-the-same;
   variablesHeldAgain = holds-again;
+  readIsHeld = read-is-held;
+  wroteReadsBack = wrote-reads-back;
+  roomSuffices = room-suffices;
   listsTheVariables = lists-the-variables;
 }
 

@@ -38,10 +38,10 @@ use denote.Triple.Spec.{Meets, tripleOf}
 use denote.Triple.Table.{entered}
 use denote.Triple.Walked.{says, Stays, stay-none, stay-none-slice, walkOf, Walks, ends-at, walked, goes-none, goes-none-slice, walk-meets}
 use borrow.Author.Needs.{scaled-fits}
-use Rattle.env_records.specs.declared.VariableRecord.{VariableRecord}
-use Rattle.env_records.proofs.VariableRecord as T
-use Rattle.env_records.proofs.VariableRecord.Laws as T′
-use Rattle.env_list.specs.Lists.{blank}
+use Rattle.env_records.specs.Records.{blank}
+use Rattle.env.specs.declared.VariableRecord.{VariableRecord}
+use Rattle.env.proofs.VariableRecord as T
+use Rattle.env.proofs.VariableRecord.Laws as T′
 use Rattle.env_list.proofs.Walks.{vals, typed, offset-to, local, lets, field-of}
 use Rattle.env_list.proofs.get.Key.{name as #env-list·get}
 use Rattle.env_list.proofs.get as get

@@ -6,6 +6,7 @@ use Prim.Native.Nat.{_*_, _-_}
 use native.Mathlib.Omega.{arith}
 use lib.ListN.{length}
 use borrow.Author.Needs.{needs}
+use Rattle.env.specs.Numbers.{recordWidth}
 use Rattle.env_list.proofs.Joined.{numbered, cut-room, whole-room}
 use Rattle.env_list.proofs.read_numbers.Statement.{statement}
 use Rattle.env_list.proofs.read_numbers.Tie as tie
@@ -36,7 +37,7 @@ returns c =
     let a = c .before .before .before .before .before .before .before .before .before .before .before .args in
     let e = c .before .before .before .before .read .ensures in
     let size : length (a .numbers .now) ≡ 320 = omega arith in
-    numbered (a .payload .now) (a .bytes .now) _ _ (a .room) _ _ _ (cut-room (a .numbers .now) (5 * a .room - 0) (a .room) size (omega arith) (omega arith)) e
+    numbered (a .payload .now) (a .bytes .now) _ _ (a .room) _ _ _ (cut-room (a .numbers .now) (recordWidth * a .room - 0) (a .room) size (omega arith) (omega arith)) e
 
 read-requires-2 : tie.Need-read-requires-2
 read-requires-2 c κs = search needs

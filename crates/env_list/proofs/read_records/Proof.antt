@@ -44,14 +44,15 @@ use denote.Triple.Entry.{onEntry}
 use denote.Triple.Spec.{Meets, tripleOf}
 use denote.Triple.Table.{entered, cited}
 use denote.Triple.Walked.{says, Stays, stay-none-slice, gave-slice, walkOf, Walks, ends-at, walked, goes-none-slice, goes-gave-slice, walk-meets}
-use Rattle.env_records.specs.declared.VariableRecord.{VariableRecord}
-use Rattle.env_records.proofs.VariableRecord as T
+use Rattle.env_list.specs.near.Firsts.{countOf, Numbered}
+use Rattle.env.specs.declared.VariableRecord.{VariableRecord}
+use Rattle.env.proofs.VariableRecord as T
 use Rattle.env_delivery.specs.declared.Answer.{Answer}
 use Rattle.env_delivery.proofs.Answer as S
 use Rattle.env_delivery.proofs.Answer.Laws as S′
 use Rattle.octets.specs.Lent.{outcome}
 use Rattle.env_list.specs.Lists.{listing}
-use Rattle.env_list.specs.Reading.{readRecords, countOf, Numbered}
+use Rattle.env_list.specs.Reading.{readRecords}
 use Rattle.env_list.proofs.Buffer.{array-type, zeros, Lies, lent-list, filled, lends, back, shares, emptied}
 use Rattle.env_list.proofs.Firsts.{begun}
 use Rattle.env_list.proofs.Walks.{local, lets, field-of}

@@ -38,9 +38,9 @@ use denote.Triple.Table.{entered}
 use denote.Triple.Walked.{says, Stays, stay-slice, stay-none, walkOf, Walks, ends-at, walked, goes-slice, goes-none, walk-meets}
 use borrow.Author.Needs.{scaled-fits}
 use borrow.Author.Tests.{lt-ltb, le-ltb}
-use Rattle.env_records.specs.declared.VariableRecord.{VariableRecord}
-use Rattle.env_records.proofs.VariableRecord as T
-use Rattle.env_records.proofs.VariableRecord.Laws as T′
+use Rattle.env.specs.declared.VariableRecord.{VariableRecord}
+use Rattle.env.proofs.VariableRecord as T
+use Rattle.env.proofs.VariableRecord.Laws as T′
 use Rattle.env_list.specs.Lists.{listing, setAt}
 use Rattle.env_list.proofs.Walks.{vals, typed, slice-type, says-list, loan, offset-to, stores, closes, local, lets, field-of}
 use Rattle.env_list.proofs.set.Key.{name as #env-list·set}

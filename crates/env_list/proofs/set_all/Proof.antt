@@ -45,15 +45,15 @@ use denote.Triple.Spec.{Meets, tripleOf}
 use denote.Triple.Table.{entered, cited}
 use denote.Triple.Walked.{says, needs, Stays, stay-slice, stay-none, stay-none-slice, walkOf, Walks, ends-at, walked, goes-slice, goes-none, goes-none-slice, walk-meets}
 use borrow.Author.Needs.{scaled-fits}
-use Rattle.env_records.specs.declared.VariableRecord.{VariableRecord}
+use Rattle.env_list.specs.near.Firsts.{firstRecords}
+use Rattle.env.specs.declared.VariableRecord.{VariableRecord}
 use Rattle.env_records.specs.Records.{recordAt}
-use Rattle.env_records.proofs.VariableRecord as T
-use Rattle.env_records.proofs.VariableRecord.Laws as T′
+use Rattle.env.proofs.VariableRecord as T
+use Rattle.env.proofs.VariableRecord.Laws as T′
 use Rattle.env_records.proofs.record_at as record-at
 use Rattle.env_records.proofs.record_at.Symbol as record-at-def
 use Rattle.env_records.proofs.record_at.Symbol.{name as #env-records·record-at}
 use Rattle.env_records.proofs.record_at.Met as record-at-thm
-use Rattle.env_list.specs.Lists.{firstRecords}
 use Rattle.env_list.proofs.Firsts.{begun, length-begun, begun-more}
 use Rattle.env_list.proofs.Walks.{vals, typed, slice-type, says-list, loan, offset-to, stores, closes, either, local, lets, field-of}
 use Rattle.env_list.proofs.set_all.Key.{name as #env-list·set-all}

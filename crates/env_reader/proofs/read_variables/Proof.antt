@@ -22,35 +22,35 @@ returns c =
 enum-known-count : tie.Need-enum-known-count
 enum-known-count c = search needs
 
-sub-hand-over : tie.Need-sub-hand-over
-sub-hand-over c = search needs
+sub-deliver : tie.Need-sub-deliver
+sub-deliver c = search needs
 
-part-hand-over-start : tie.Need-part-hand-over-start
-part-hand-over-start c = search needs
+part-deliver-start : tie.Need-part-deliver-start
+part-deliver-start c = search needs
 
-part-hand-over-end : tie.Need-part-hand-over-end
-part-hand-over-end c =
+part-deliver-end : tie.Need-part-deliver-end
+part-deliver-end c =
     let all = name-variables _ _ _ _ _ _ (c .before .before .before .before .find-variables .ensures) (c .before .before .count .given .1) in
     omega (arith, all .1)
 
-mul-hand-over : tie.Need-mul-hand-over
-mul-hand-over c =
+mul-deliver : tie.Need-mul-deliver
+mul-deliver c =
     let all = name-variables _ _ _ _ _ _ (c .before .before .before .before .before .find-variables .ensures) (c .before .before .before .count .given .1) in
     let few = all .0 in search needs
 
-sub-hand-over-2 : tie.Need-sub-hand-over-2
-sub-hand-over-2 c = search needs
+sub-deliver-2 : tie.Need-sub-deliver-2
+sub-deliver-2 c = search needs
 
-part-hand-over-start-2 : tie.Need-part-hand-over-start-2
-part-hand-over-start-2 c = search needs
+part-deliver-start-2 : tie.Need-part-deliver-start-2
+part-deliver-start-2 c = search needs
 
-part-hand-over-end-2 : tie.Need-part-hand-over-end-2
-part-hand-over-end-2 c =
+part-deliver-end-2 : tie.Need-part-deliver-end-2
+part-deliver-end-2 c =
     let all = name-variables _ _ _ _ _ _ (c .before .before .before .before .before .before .find-variables .ensures) (c .before .before .before .before .count .given .1) in
     omega (arith, all .2)
 
-hand-over-requires : tie.Need-hand-over-requires
-hand-over-requires c κs = search needs
+deliver-requires : tie.Need-deliver-requires
+deliver-requires c κs = search needs
 
 same-length : tie.Need-same-length
 same-length c = search needs
@@ -63,7 +63,7 @@ returns-2 c =
     let a = c .before .before .before .before .before .before .before .before .before .before .before .before .before .before .before .before .before .before .before .before .args in
     let all = name-variables _ _ _ _ _ _ (c .before .before .before .before .before .before .before .before .before .before .before .before .before .before .find-variables .ensures) (c .before .before .before .before .before .before .before .before .before .before .before .before .count .given .1) in
     let whole = variables-delivered (a .first) (a .rest .now) (a .bytes .now) (a .numbers .now) (all .3 .all) (all .3 .those) in
-    c .before .before .before .before .hand-over .ensures ∙ rw (sub-zero, sub-zero, all .3 .texts, all .3 .records) whole
+    c .before .before .before .before .deliver .ensures ∙ rw (sub-zero, sub-zero, all .3 .texts, all .3 .records) whole
 
 pub read-variables-spec : {M : Type 1} → statement M
 read-variables-spec =
@@ -73,14 +73,14 @@ read-variables-spec =
     enum-known-n
     returns
     enum-known-count
-    sub-hand-over
-    part-hand-over-start
-    part-hand-over-end
-    mul-hand-over
-    sub-hand-over-2
-    part-hand-over-start-2
-    part-hand-over-end-2
-    hand-over-requires
+    sub-deliver
+    part-deliver-start
+    part-deliver-end
+    mul-deliver
+    sub-deliver-2
+    part-deliver-start-2
+    part-deliver-end-2
+    deliver-requires
     same-length
     same-length-2
     returns-2)

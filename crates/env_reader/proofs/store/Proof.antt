@@ -3,6 +3,7 @@ use mathlib.Core.List.{[], _∷_}
 use Prim.Native.Nat.{_+_, _*_, _≤_}
 use native.Mathlib.Omega.{arith}
 use lib.ListN.{length}
+use Rattle.env.specs.Numbers.{recordWidth}
 use Rattle.octets.proofs.Promise.{put-whole}
 use borrow.Author.Needs.{needs}
 use Rattle.env_reader.proofs.store.Statement.{statement}
@@ -22,8 +23,8 @@ returns : tie.Need-returns
 returns c =
     let a = c .before .before .before .before .before .args in
     let five = a .kind ∷ a .at ∷ a .n ∷ (a .at + a .n) ∷ a .m ∷ [] in
-    let fit : 5 * a .k + 5 ≤ length (a .numbers .now) = omega arith in
-    put-whole five (a .numbers .now) (5 * a .k) fit (c .before .before .set-record .ensures)
+    let fit : recordWidth * a .k + 5 ≤ length (a .numbers .now) = omega arith in
+    put-whole five (a .numbers .now) (recordWidth * a .k) fit (c .before .before .set-record .ensures)
 
 pub store-spec : {M : Type 1} → statement M
 store-spec = tie.close (tie.spec add-t9 set-record-requires same-length returns)

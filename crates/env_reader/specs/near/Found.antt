@@ -7,7 +7,7 @@ use Rattle.env_reader.specs.declared.Found.{Found as Answered}
 use Rattle.env_reader.specs.declared.Found.the-variants.{Variables, Fault}
 use Rattle.env.specs.Variable.{variableLimit}
 use Rattle.env.specs.Read.{Found, variables, fault}
-use Rattle.env.specs.Numbers.{packed, recorded}
+use Rattle.env.specs.Numbers.{recordWidth, packed, recorded}
 use Rattle.octets.specs.Lent.{overwrite}
 
 -- a buffer of texts and a list of records
@@ -24,7 +24,7 @@ pub record Stored (x ns : List ℕ) (count at k : ℕ) (before : Buffers) (r : A
   pub limit : count ≤ variableLimit
   pub within : at + length x ≤ length (before .bytes)
   pub texts : after .bytes ≡ overwrite (before .bytes) at x
-  pub records : after .numbers ≡ overwrite (before .numbers) (5 * k) ns
+  pub records : after .numbers ≡ overwrite (before .numbers) (recordWidth * k) ns
 
 -- variables from a place on, as records k and following; after a fault nothing is said of buffer and list
 unfoldable pub NameRead : Found → ℕ → ℕ → Buffers → Answered → Buffers → Type 0

@@ -4,6 +4,7 @@ use mathlib.Core.Bool.{true, false}
 use mathlib.Core.List.{List, [], _∷_, _++_}
 use Prim.Native.Nat.{ℕ, suc, _+_, _*_, _≤_}
 use lib.ListN.{length, drop}
+use Rattle.telnet.specs.Event.{payloadLimit}
 use Rattle.env_reader.specs.declared.Found.{Found as Answered}
 use Rattle.env_reader.specs.declared.Found.the-variants.{Fault}
 use Rattle.env_reader.specs.near.Found.{Buffers, Stored}
@@ -11,7 +12,7 @@ use Rattle.env_text.specs.declared.Text.{Text}
 use Rattle.env.specs.Variable.{Variable, variable, variableLimit}
 use Rattle.env.specs.Fields.{text, broken, Field, nameField, valueField, Row, rowOf}
 use Rattle.env.specs.Read.{Found, variables, fault, names, expectNoText}
-use Rattle.env.specs.Numbers.{packed, recorded}
+use Rattle.env.specs.Numbers.{listLimit, packed, recorded}
 use Rattle.refusal.specs.Refusal.{noVariable, badEscape, valueInValue}
 use Rattle.octets.specs.Lent.{overwrite}
 
@@ -52,9 +53,9 @@ pub record IsValue (rest bytes₀ : List ℕ) (at : ℕ) (r : Text) (bytes : Lis
 -- behind `at` bytes of the buffer there is room for all that is left of a payload, and the list has room for 64 records, k of which are known
 pub record HasRoom (rest : List ℕ) (at k : ℕ) (b : Buffers) : Type 0 where
   pub texts : at + length rest ≤ length (b .bytes)
-  pub short : length (b .bytes) ≤ 1024
-  pub records : 320 ≤ length (b .numbers)
-  pub count : k ≤ 64
+  pub short : length (b .bytes) ≤ payloadLimit
+  pub records : listLimit ≤ length (b .numbers)
+  pub count : k ≤ variableLimit
 
 -- the same behind a name of n bytes that is there already
 unfoldable pub ValueRead : Valued → ℕ → ℕ → ℕ → ℕ → Buffers → Answered → Buffers → Type 0

@@ -7,16 +7,17 @@ use native.Mathlib.Omega.{arith}
 use borrow.Author.Needs.{needs}
 use lib.ListN.{length, drop}
 use Rattle.env.specs.Variable.{is}
-use Rattle.env_records.specs.Records.{recordAt, variableOf, placeOf}
+use Rattle.env_records.specs.Records.{recordAt, placeOf}
+use Rattle.env.specs.Numbers.{recordWidth, variableOf}
 use Rattle.env_records.proofs.Steps.{place-step, place-end}
 use Rattle.env_records.proofs.find.Statement.{statement}
 use Rattle.env_records.proofs.find.Tie as tie
 
 abbrev Inv-loop : tie.InvT-loop
-Inv-loop bytes numbers kind name i₀ i = placeOf kind name bytes (drop (5 * i) numbers) ≡ placeOf kind name bytes numbers
+Inv-loop bytes numbers kind name i₀ i = placeOf kind name bytes (drop (recordWidth * i) numbers) ≡ placeOf kind name bytes numbers
 
 abbrev μ-loop : tie.MeasureT-loop
-μ-loop bytes numbers kind name i₀ i = length numbers / 5 - i
+μ-loop bytes numbers kind name i₀ i = length numbers / recordWidth - i
 
 loop-holds : tie.Need-loop-holds Inv-loop μ-loop
 loop-holds c = search needs

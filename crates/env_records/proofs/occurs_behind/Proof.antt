@@ -6,21 +6,17 @@ use borrow.Author.Needs.{needs}
 use lib.ListN.{length, drop, length-drop}
 use lib.Seq.{take-all}
 use Rattle.env.specs.Variable.{among}
-use Rattle.env.specs.Numbers.{part, held}
-use Rattle.env_records.specs.Records.{recordAt, variableOf, placeOf}
+use Rattle.env.specs.Numbers.{recordWidth, variableOf, part, held}
+use Rattle.env_records.specs.Records.{recordAt, placeOf}
 use Rattle.env_records.proofs.Found.{there, there-among}
-use Rattle.env_records.proofs.Parts.{part-lent}
 use Rattle.env_records.proofs.occurs_behind.Statement.{statement}
 use Rattle.env_records.proofs.occurs_behind.Tie as tie
 
 record-at-requires : tie.Need-record-at-requires
 record-at-requires c κs = search needs
 
-clipped-requires : tie.Need-clipped-requires
-clipped-requires c κs = search needs
-
-part-end-requires : tie.Need-part-end-requires
-part-end-requires c κs = search needs
+text-requires : tie.Need-text-requires
+text-requires c κs = search needs
 
 add-next : tie.Need-add-next
 add-next c = search needs
@@ -40,15 +36,6 @@ part-find-start c = search needs
 part-find-end : tie.Need-part-find-end
 part-find-end c = search needs
 
-sub-find-2 : tie.Need-sub-find-2
-sub-find-2 c = search needs
-
-part-find-start-2 : tie.Need-part-find-start-2
-part-find-start-2 c = search needs
-
-part-find-end-2 : tie.Need-part-find-end-2
-part-find-end-2 c = search needs
-
 find-requires : tie.Need-find-requires
 find-requires c κs = search needs
 
@@ -59,18 +46,18 @@ enum-told-2 : tie.Need-enum-told-2
 enum-told-2 c = search needs
 
 -- a value has a place exactly where a record behind has the kind and the name
-behind : (c : tie.After-find) → let s = c .before .before .before .before .before .before .before .before .args in
+behind : (c : tie.After-find) → let s = c .before .before .before .before .before .before .args in
     let v = variableOf (s .bytes .now) (recordAt (s .numbers .now) (s .i)) in
-    there (c .find .result) ≡ among (v .kind) (v .name) (held (s .bytes .now) (drop (5 * (s .i + 1)) (s .numbers .now)))
+    there (c .find .result) ≡ among (v .kind) (v .name) (held (s .bytes .now) (drop (recordWidth * (s .i + 1)) (s .numbers .now)))
 behind c =
-    let s = c .before .before .before .before .before .before .before .before .args in
+    let s = c .before .before .before .before .before .before .args in
     let bytes = s .bytes .now in
-    let v = c .before .before .before .before .before .record-at in
+    let v = c .before .before .before .record-at in
     let r = v .result in
-    let rest = drop (5 * (s .i + 1)) (s .numbers .now) in
+    let rest = drop (recordWidth * (s .i + 1)) (s .numbers .now) in
     let text = part bytes (r .«name_at») (r .«name_length») in
-    let name = part-lent bytes (r .«name_at») (r .«name_length») _ _ (c .before .before .before .before .clipped .ensures) (c .before .before .before .part-end .ensures) in
-    let all = take-all (length (s .numbers .now) - 5 * (s .i + 1)) rest (rw length-drop (omega arith)) in
+    let name = c .before .before .text .ensures in
+    let all = take-all (length (s .numbers .now) - recordWidth * (s .i + 1)) rest (rw length-drop (omega arith)) in
     let place : c .find .result ≡ placeOf (r .kind) text bytes rest = rw (all, name) at (c .find .ensures) in
     rw (← v .ensures) (ap there place ∙ there-among (r .kind) text bytes rest)
 
@@ -87,17 +74,13 @@ occurs-behind-spec =
     tie.close
     (tie.spec
     record-at-requires
-    clipped-requires
-    part-end-requires
+    text-requires
     add-next
     mul-next
     mul-find
     sub-find
     part-find-start
     part-find-end
-    sub-find-2
-    part-find-start-2
-    part-find-end-2
     find-requires
     enum-told
     enum-told-2

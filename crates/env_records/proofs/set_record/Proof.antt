@@ -7,13 +7,13 @@ use borrow.Author.Needs.{needs}
 use lib.ListN.{length, length-set}
 use Rattle.octets.specs.Lent.{outcome}
 use Rattle.octets.proofs.Promise.{put-fits, put-refused}
-use Rattle.env_records.specs.Records.{numbersOf}
+use Rattle.env.specs.Numbers.{recordWidth, numbersOf}
 use Rattle.env_records.proofs.Stored.{five-stored}
 use Rattle.env_records.proofs.set_record.Statement.{statement}
 use Rattle.env_records.proofs.set_record.Tie as tie
 
 returns : tie.Need-returns
-returns c = let s = c .before .args in sym (put-refused (numbersOf (s .v)) (s .numbers .now) (5 * s .i) (omega arith))
+returns c = let s = c .before .args in sym (put-refused (numbersOf (s .v)) (s .numbers .now) (recordWidth * s .i) (omega arith))
 
 mul-k : tie.Need-mul-k
 mul-k c = search needs
@@ -67,9 +67,9 @@ returns-2 : tie.Need-returns-2
 returns-2 c =
     let s = c .before .args in
     let v = s .v in
-    let room : 5 * s .i + 5 ≤ length (s .numbers .now) = omega arith in
-    ap (outcome true) (five-stored (s .numbers .now) (5 * s .i) (v .kind) (v .«name_at») (v .«name_length») (v .«value_at») (v .«value_length») room)
-    ∙ sym (put-fits (numbersOf v) (s .numbers .now) (5 * s .i) room)
+    let room : recordWidth * s .i + recordWidth ≤ length (s .numbers .now) = omega arith in
+    ap (outcome true) (five-stored (s .numbers .now) (recordWidth * s .i) (v .kind) (v .«name_at») (v .«name_length») (v .«value_at») (v .«value_length») room)
+    ∙ sym (put-fits (numbersOf v) (s .numbers .now) (recordWidth * s .i) room)
 
 pub set-record-spec : {M : Type 1} → statement M
 set-record-spec =

@@ -1,4 +1,4 @@
--- `env_writer::all_placed` meets its contract: where the loop stands, the records from there on decide. The measure is `length numbers / 5 - i`.
+-- `env_writer::all_placed` meets its contract: where the loop stands, the records from there on decide. The measure is `length numbers / recordWidth - i`.
 -- Assumes nothing.
 use mathlib.Core.Path.{_≡_, refl, sym, ap, _∙_}
 use mathlib.Core.Bool.{_&&_}
@@ -6,18 +6,16 @@ use Prim.Native.Nat.{_+_, _-_, _*_, _/_}
 use lib.ListN.{length, drop}
 use borrow.Author.Needs.{needs}
 use borrow.Author.Tests.{not-true, not-false}
-use Rattle.env.specs.Numbers.{placed}
-use Rattle.env_records.specs.Records.{numbersOf}
-use Rattle.env_records.proofs.Steps.{placed-end}
-use Rattle.env_writer.proofs.WritingRecords.{placed-from}
+use Rattle.env.specs.Numbers.{recordWidth, isPlaced, placed}
+use Rattle.env_records.proofs.Steps.{placed-step, placed-end}
 use Rattle.env_writer.proofs.all_placed.Statement.{statement}
 use Rattle.env_writer.proofs.all_placed.Tie as tie
 
 abbrev Inv-loop : tie.InvT-loop
-Inv-loop bytes numbers i₀ i = placed bytes (drop (5 * i) numbers) ≡ placed bytes numbers
+Inv-loop bytes numbers i₀ i = placed bytes (drop (recordWidth * i) numbers) ≡ placed bytes numbers
 
 abbrev μ-loop : tie.MeasureT-loop
-μ-loop bytes numbers i₀ i = length numbers / 5 - i
+μ-loop bytes numbers i₀ i = length numbers / recordWidth - i
 
 loop-holds : tie.Need-loop-holds Inv-loop μ-loop
 loop-holds c = refl
@@ -32,14 +30,14 @@ is-placed-requires c κs = search needs
 tested : (c : tie.After-is-placed Inv-loop μ-loop)
     → let a = c .before .before .before .before .before .before .args in
     let i = c .before .before .before .loop .i in
-    placed (a .bytes .now) (a .numbers .now) ≡ (c .is-placed .result && placed (a .bytes .now) (drop (5 * (i + 1)) (a .numbers .now)))
+    placed (a .bytes .now) (a .numbers .now) ≡ (c .is-placed .result && placed (a .bytes .now) (drop (recordWidth * (i + 1)) (a .numbers .now)))
 tested c =
     let a = c .before .before .before .before .before .before .args in
     let l = c .before .before .before .loop in
     let bytes = a .bytes .now in
-    let here = ap (λ r. placed bytes (numbersOf r)) (sym (c .before .record-at .ensures)) ∙ sym (c .is-placed .ensures) in
-    sym (l .inv) ∙ placed-from bytes (a .numbers .now) (l .i) (c .before .before .loop-test .taken)
-    ∙ ap (λ t. t && placed bytes (drop (5 * (l .i + 1)) (a .numbers .now))) here
+    let here = ap (λ r. isPlaced bytes r) (sym (c .before .record-at .ensures)) ∙ sym (c .is-placed .ensures) in
+    sym (l .inv) ∙ placed-step bytes (a .numbers .now) (l .i) (c .before .before .loop-test .taken)
+    ∙ ap (λ t. t && placed bytes (drop (recordWidth * (l .i + 1)) (a .numbers .now))) here
 
 returns : tie.Need-returns Inv-loop μ-loop
 returns c = sym (rw (not-true (c .before .is-placed .result) (c .if1 .taken)) at (tested (c .before)))

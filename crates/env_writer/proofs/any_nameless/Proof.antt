@@ -1,4 +1,4 @@
--- `env_writer::any_nameless` meets its contract: where the loop stands, the records from there on decide. The measure is `length numbers / 5 -
+-- `env_writer::any_nameless` meets its contract: where the loop stands, the records from there on decide. The measure is `length numbers / recordWidth -
 -- i`. Assumes nothing.
 use mathlib.Core.Path.{_≡_, refl, sym, ap, _∙_}
 use mathlib.Core.Bool.{true, _||_}
@@ -9,7 +9,7 @@ use lib.ListN.{length, drop}
 use borrow.Author.Needs.{needs}
 use borrow.Author.Tests.{eq-eqb, ne-eqb}
 use Rattle.env.specs.Write.{nameless}
-use Rattle.env.specs.Numbers.{held, placed}
+use Rattle.env.specs.Numbers.{recordWidth, held, placed}
 use Rattle.env_writer.proofs.WritingRecords.{good-from, nameless-from, nameless-none}
 use Rattle.env_writer.proofs.any_nameless.Statement.{statement}
 use Rattle.env_writer.proofs.any_nameless.Tie as tie
@@ -17,10 +17,10 @@ use Rattle.env_writer.proofs.any_nameless.Tie as tie
 abbrev Inv-loop : tie.InvT-loop
 Inv-loop numbers i₀ i =
     (bytes : List ℕ) → placed bytes numbers ≡ true
-    → (placed bytes (drop (5 * i) numbers) ≡ true) × (nameless (held bytes numbers) ≡ nameless (held bytes (drop (5 * i) numbers)))
+    → (placed bytes (drop (recordWidth * i) numbers) ≡ true) × (nameless (held bytes numbers) ≡ nameless (held bytes (drop (recordWidth * i) numbers)))
 
 abbrev μ-loop : tie.MeasureT-loop
-μ-loop numbers i₀ i = length numbers / 5 - i
+μ-loop numbers i₀ i = length numbers / recordWidth - i
 
 loop-holds : tie.Need-loop-holds Inv-loop μ-loop
 loop-holds c = λ bytes e. (e, refl)
@@ -33,12 +33,12 @@ tested : (c : tie.After-record-at Inv-loop μ-loop)
     → let numbers = c .before .before .before .before .args .numbers .now in
     let i = c .before .before .loop .i in
     (bytes : List ℕ) → placed bytes numbers ≡ true
-    → nameless (held bytes numbers) ≡ (eqb (c .record-at .result .«name_length») 0 || nameless (held bytes (drop (5 * (i + 1)) numbers)))
+    → nameless (held bytes numbers) ≡ (eqb (c .record-at .result .«name_length») 0 || nameless (held bytes (drop (recordWidth * (i + 1)) numbers)))
 tested c =
     let numbers = c .before .before .before .before .args .numbers .now in
     let l = c .before .before .loop in
     λ bytes e.
-    let rest = nameless (held bytes (drop (5 * (l .i + 1)) numbers)) in
+    let rest = nameless (held bytes (drop (recordWidth * (l .i + 1)) numbers)) in
     l .inv bytes e .1 ∙ nameless-from bytes numbers (l .i) (c .before .loop-test .taken) (l .inv bytes e .0)
     ∙ ap (λ r. eqb (r .«name_length») 0 || rest) (sym (c .record-at .ensures))
 

@@ -6,8 +6,7 @@ use native.Mathlib.Omega.{arith}
 use lib.ListN.{length, drop}
 use borrow.Author.Needs.{needs}
 use Rattle.env.specs.Write.{writtenVariable, writtenVariables}
-use Rattle.env.specs.Numbers.{held, placed}
-use Rattle.env_records.specs.Records.{numbersOf, variableOf}
+use Rattle.env.specs.Numbers.{recordWidth, variableOf, held, isPlaced, placed}
 use Rattle.telnet.specs.Event.{payloadLimit}
 use Rattle.env_writer.proofs.WritingRecords.{good-from, length-written-from, written-none}
 use Rattle.env_writer.proofs.measure.Statement.{statement}
@@ -15,12 +14,12 @@ use Rattle.env_writer.proofs.measure.Tie as tie
 
 abbrev Inv-loop : tie.InvT-loop
 Inv-loop bytes numbers n₀ i₀ n i =
-    (n ≤ payloadLimit + 1) × (placed bytes (drop (5 * i) numbers) ≡ true)
-    × (min (payloadLimit + 1) (n + length (writtenVariables (held bytes (drop (5 * i) numbers))))
+    (n ≤ payloadLimit + 1) × (placed bytes (drop (recordWidth * i) numbers) ≡ true)
+    × (min (payloadLimit + 1) (n + length (writtenVariables (held bytes (drop (recordWidth * i) numbers))))
     ≡ min (payloadLimit + 1) (1 + length (writtenVariables (held bytes numbers))))
 
 abbrev μ-loop : tie.MeasureT-loop
-μ-loop bytes numbers n₀ i₀ n i = length numbers / 5 - i
+μ-loop bytes numbers n₀ i₀ n i = length numbers / recordWidth - i
 
 loop-holds : tie.Need-loop-holds Inv-loop μ-loop
 loop-holds c = (omega arith, c .before .before .pre, refl)
@@ -36,7 +35,7 @@ longer-by-variable-requires c κs =
     let a = c .before .before .before .before .before .before .args in
     let l = c .before .before .before .loop in
     let good = good-from (a .bytes .now) (a .numbers .now) (l .i) (c .before .before .loop-test .taken) (l .inv .1) in
-    (l .inv .0, ap (λ r. placed (a .bytes .now) (numbersOf r)) (c .record-at .ensures) ∙ good .0)
+    (l .inv .0, ap (λ r. isPlaced (a .bytes .now) r) (c .record-at .ensures) ∙ good .0)
 
 add-i : tie.Need-add-i Inv-loop μ-loop
 add-i c = search needs

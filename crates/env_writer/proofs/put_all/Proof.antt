@@ -1,5 +1,5 @@
 -- `env_writer::put_all` meets its contract: what is left to write, written where the loop stands, gives the whole. The measure is `length
--- numbers / 5 - i`. Assumes nothing.
+-- numbers / recordWidth - i`. Assumes nothing.
 use mathlib.Core.Path.{_≡_, refl, sym, ap, ap₂, _∙_}
 use mathlib.Core.Bool.{true}
 use Prim.Native.Nat.{_+_, _-_, _*_, _/_, _≤_}
@@ -7,8 +7,8 @@ use native.Mathlib.Omega.{arith}
 use lib.ListN.{length, drop}
 use borrow.Author.Needs.{needs}
 use Rattle.env.specs.Write.{writtenVariable, writtenVariables}
-use Rattle.env.specs.Numbers.{held, placed}
-use Rattle.env_records.specs.Records.{recordAt, numbersOf, variableOf}
+use Rattle.env.specs.Numbers.{recordWidth, variableOf, held, isPlaced, placed}
+use Rattle.env_records.specs.Records.{recordAt}
 use Rattle.octets.specs.Lent.{overwrite}
 use Rattle.octets.proofs.Overwrite.{overwrite-nil, overwrite-append}
 use Rattle.env_writer.proofs.WritingRecords.{good-from, written-from, length-written-from, written-none}
@@ -17,12 +17,12 @@ use Rattle.env_writer.proofs.put_all.Tie as tie
 
 abbrev Inv-loop : tie.InvT-loop
 Inv-loop bytes numbers out₀ i₀ at₀ out i at =
-    (placed bytes (drop (5 * i) numbers) ≡ true) × (length out ≡ length out₀)
-    × (at + length (writtenVariables (held bytes (drop (5 * i) numbers))) ≤ length out₀)
-    × (overwrite out at (writtenVariables (held bytes (drop (5 * i) numbers))) ≡ overwrite out₀ 1 (writtenVariables (held bytes numbers)))
+    (placed bytes (drop (recordWidth * i) numbers) ≡ true) × (length out ≡ length out₀)
+    × (at + length (writtenVariables (held bytes (drop (recordWidth * i) numbers))) ≤ length out₀)
+    × (overwrite out at (writtenVariables (held bytes (drop (recordWidth * i) numbers))) ≡ overwrite out₀ 1 (writtenVariables (held bytes numbers)))
 
 abbrev μ-loop : tie.MeasureT-loop
-μ-loop bytes numbers out₀ i₀ at₀ out i at = length numbers / 5 - i
+μ-loop bytes numbers out₀ i₀ at₀ out i at = length numbers / recordWidth - i
 
 loop-holds : tie.Need-loop-holds Inv-loop μ-loop
 loop-holds c = let s = c .before .before .before in (s .pre .0, refl, s .pre .1, refl)
@@ -39,7 +39,7 @@ put-variable-requires c κs =
     let numbers = a .numbers .now in
     let this = c .before .record-at .ensures in
     let size = ap (λ r. length (writtenVariable (variableOf bytes r))) this in (
-      ap (λ r. placed bytes (numbersOf r)) this ∙ good-from bytes numbers (l .i) t (l .inv .0) .0,
+      ap (λ r. isPlaced bytes r) this ∙ good-from bytes numbers (l .i) t (l .inv .0) .0,
       omega (arith, size, length-written-from bytes numbers (l .i) t, l .inv .1, l .inv .2),
     )
 
@@ -61,7 +61,7 @@ loop-again c =
     let this = ap (λ v. writtenVariable (variableOf bytes v)) (r .record-at .ensures) in
     let n = length-written-from bytes numbers (l .i) t in
     let one = writtenVariable (variableOf bytes (recordAt numbers (l .i))) in
-    let rest = writtenVariables (held bytes (drop (5 * (l .i + 1)) numbers)) in
+    let rest = writtenVariables (held bytes (drop (recordWidth * (l .i + 1)) numbers)) in
     let place : p .result ≡ l .at + length one = p .ensures .0 ∙ ap (λ w. l .at + length w) this in
     let variable = overwrite-append (l .out) (l .at) one rest (omega (arith, n, l .inv .1, l .inv .2)) in (
       good-from bytes numbers (l .i) t (l .inv .0) .1,

@@ -8,7 +8,7 @@ use borrow.Author.Needs.{needs}
 use borrow.Author.Tests.{not-true, not-false}
 use Rattle.env.specs.Variable.{isFirst, variableLimit, repeated}
 use Rattle.env.specs.Write.{nameless}
-use Rattle.env.specs.Numbers.{held, placed}
+use Rattle.env.specs.Numbers.{recordWidth, held, placed}
 use Rattle.env_writer.proofs.WritingAnswer.{not-first, not-placed, no-name, too-many, twice, too-long, no-space, space, wrote}
 use Rattle.env_writer.proofs.write.Statement.{statement}
 use Rattle.env_writer.proofs.write.Tie as tie
@@ -84,7 +84,7 @@ record Cleared (c : tie.Else5) : Type 0 where
   begins : isFirst (start₅ c .args .first) ≡ true
   good : placed (start₅ c .args .bytes .now) (start₅ c .args .numbers .now) ≡ true
   named : nameless (held (start₅ c .args .bytes .now) (start₅ c .args .numbers .now)) ≡ false
-  few : length (start₅ c .args .numbers .now) / 5 ≤ variableLimit
+  few : length (start₅ c .args .numbers .now) / recordWidth ≤ variableLimit
   distinct : repeated (held (start₅ c .args .bytes .now) (start₅ c .args .numbers .now)) ≡ false
 
 cleared : (c : tie.Else5) → Cleared c
