@@ -25,7 +25,7 @@ fn hash_of(message: &[u8]) -> Hash
 {
     Hash {
         refusal: 0,
-        bytes: sha1::digest(message),
+        bytes: sha1_digest::digest(message),
     }
 }
 

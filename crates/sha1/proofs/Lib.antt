@@ -1,4 +1,1 @@
-pub mod Rounds
-pub mod Schedule
 pub mod Chain
-pub mod Last
