@@ -1,15 +1,17 @@
 -- What the reader answers, and what it leaves in the buffer and the list that it is lent: for every input and room, with the refusals in the
 -- specification's order, 4 last.
 use Prim.Native.Nat.{ℕ, _/_}
-use mathlib.Core.List.{List}
+use mathlib.Core.List.{List, _∷_}
 use lib.Dec.{ltb}
 use lib.ListN.{length}
 use Rattle.env_delivery.specs.declared.Answer.{Answer}
 use Rattle.env_delivery.specs.declared.Answer.the-variants.{Read, Refused}
 use Rattle.env.specs.Variable.{repeated}
-use Rattle.env.specs.Read.{Reading, says, notRead, readingOf}
+use Rattle.env.specs.Fields.{rowOf}
+use Rattle.env.specs.Read.{Reading, says, notRead, distinct, variablesOf, readingOf}
+use Rattle.telnet.specs.Event.{payloadLimit}
 use Rattle.env.specs.Numbers.{recordWidth, packed, recorded, held}
-use Rattle.refusal.specs.Refusal.{noRoom, repeatedVariable}
+use Rattle.refusal.specs.Refusal.{noRoom, payloadTooLong, repeatedVariable}
 use Rattle.octets.specs.Choice.{if_then_else_}
 use Rattle.octets.specs.Lent.{overwrite}
 
@@ -33,6 +35,12 @@ delivered (says first vs) bytes numbers =
 -- a payload, read
 abbrev pub readInto : List ℕ → List ℕ → List ℕ → Delivery
 readInto payload bytes numbers = delivered (readingOf payload) bytes numbers
+
+-- what stands behind the first byte of a payload, read
+unfoldable pub readBehind : ℕ → List ℕ → List ℕ → List ℕ → Delivery
+readBehind first rest bytes numbers =
+    if ltb payloadLimit (length (first ∷ rest)) then delivery (Refused payloadTooLong) bytes numbers
+    else delivered (distinct first (variablesOf (rowOf rest))) bytes numbers
 
 -- texts and records that were read, handed over where there is room for both
 unfoldable pub handOver : ℕ → List ℕ → List ℕ → List ℕ → List ℕ → Delivery

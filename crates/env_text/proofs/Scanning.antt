@@ -9,7 +9,7 @@ use borrow.Author.Tests.{le-leb, lt-leb, le-ltb}
 use lib.Dec.{ltb}
 use lib.ListN.{length, getD, drop, length-drop, drop-of-length-le}
 use Rattle.env_text.specs.declared.Extent.{Extent}
-use Rattle.env_text.specs.Text.{Cut, cut, withByte, textOf, marked, textAt}
+use Rattle.env_text.specs.Text.{Cut, cut, withByte, textOf, endsText, textAt}
 use Rattle.env_text.specs.near.Scan.{IsWidth, IsExtent}
 use Rattle.octets.proofs.Front.{at-front, pair-front}
 
@@ -30,8 +30,8 @@ text-mark (suc (suc zero)) bs h n = absurd (n refl)
 text-mark (suc (suc (suc zero))) bs h n = refl
 text-mark (suc (suc (suc (suc b)))) bs h n = absurd (omega arith)
 
-mark-other : (b : ℕ) (bs : List ℕ) → (b ≡ 2 → ⊥) → marked (b ∷ bs) ≡ ltb b 4
-unfolding marked
+mark-other : (b : ℕ) (bs : List ℕ) → (b ≡ 2 → ⊥) → endsText (b ∷ bs) ≡ ltb b 4
+unfolding endsText
 mark-other zero bs n = refl
 mark-other (suc zero) bs n = refl
 mark-other (suc (suc zero)) bs n = absurd (n refl)
@@ -84,15 +84,15 @@ module _ (s : List ℕ) (i : ℕ) where
         more = λ k. rw (pair-front s i h, e, next, behind) (text-escape (getD s (i + 1) 0) (drop (i + 1 + 1) s) g);
       }
 
-  pub marked-end : length s ≤ i → marked (drop i s) ≡ true
-  unfolding marked
+  pub marked-end : length s ≤ i → endsText (drop i s) ≡ true
+  unfolding endsText
   marked-end h = rw (drop-of-length-le s {i = i} h)
 
-  pub marked-escape : i < length s → getD s i 0 ≡ 2 → marked (drop i s) ≡ false
-  unfolding marked
+  pub marked-escape : i < length s → getD s i 0 ≡ 2 → endsText (drop i s) ≡ false
+  unfolding endsText
   marked-escape h e = rw (at-front s i h, e)
 
-  pub marked-other : i < length s → (getD s i 0 ≡ 2 → ⊥) → marked (drop i s) ≡ ltb (getD s i 0) 4
+  pub marked-other : i < length s → (getD s i 0 ≡ 2 → ⊥) → endsText (drop i s) ≡ ltb (getD s i 0) 4
   marked-other h n = rw (at-front s i h) (mark-other (getD s i 0) (drop (i + 1) s) n)
 
 -- a byte of the text stands at a place
@@ -124,7 +124,7 @@ pub ended : (s : List ℕ) (i w : ℕ) → IsWidth s i w → w ≡ 0 → Ended s
 ended s i w is z = record { none = ap bytesOf (is .over z); rest = ap behindOf (sym (is .over z)) }
 
 -- what stands from a place on, by its extent
-pub text-found : (s : List ℕ) (from : ℕ) (e : Extent) (w : Bool) → IsExtent s from e → w ≡ marked (drop (e .end) s)
+pub text-found : (s : List ℕ) (from : ℕ) (e : Extent) (w : Bool) → IsExtent s from e → w ≡ endsText (drop (e .end) s)
     → record { whole = w; length = e .length; end = e .end } ≡ textAt s from
 unfolding textAt
 text-found s from e w is m =
@@ -134,8 +134,8 @@ text-found s from e w is m =
 
 -- past the end no text stands
 pub text-past : (s : List ℕ) (from : ℕ) → length s ≤ from → record { whole = true; length = 0; end = length s } ≡ textAt s from
-unfolding textAt textOf marked
+unfolding textAt textOf endsText
 text-past s from h =
     ap (λ n. record { whole = true; length = 0; end = n }) (sym (sub-zero (length s)))
-    ∙ ap (λ l. record { whole = marked (textOf l .behind); length = length (textOf l .bytes); end = length s - length (textOf l .behind) })
+    ∙ ap (λ l. record { whole = endsText (textOf l .behind); length = length (textOf l .bytes); end = length s - length (textOf l .behind) })
     (sym (drop-of-length-le s {i = from} h))

@@ -9,13 +9,13 @@ use borrow.Author.Tests.{leb-true, leb-false}
 use lib.Dec.{leb}
 use lib.ListN.{length, drop, length-drop}
 use lib.Seq.{drop-drop}
-use Rattle.env_text.specs.Text.{withByte, textOf, marked, textAt}
+use Rattle.env_text.specs.Text.{withByte, textOf, endsText, textAt}
 use Rattle.env.specs.Fields.{Text, text, broken, Row, row, rowOf, joins, stands, startsName, startsValue}
 use Rattle.env.proofs.Rows.{row-escape, row-bad-escape}
 
 -- where nothing or a mark stands, no text does
-pub row-marked : (l : List ℕ) → marked l ≡ true → rowOf l .front ≡ text []
-unfolding marked rowOf startsName startsValue
+pub row-marked : (l : List ℕ) → endsText l ≡ true → rowOf l .front ≡ text []
+unfolding endsText rowOf startsName startsValue
 row-marked [] m = refl
 row-marked (zero ∷ bs) m = refl
 row-marked (suc zero ∷ bs) m = refl
@@ -29,8 +29,8 @@ front r = r .front
 
 -- the text at the front, scanned and in the row: whole, or broken
 pub data Scanned (l : List ℕ) : Type 0 where
-  whole-text : marked (textOf l .behind) ≡ true → rowOf l ≡ row (text (textOf l .bytes)) (rowOf (textOf l .behind) .fields) → Scanned l
-  bad-text : marked (textOf l .behind) ≡ false → rowOf l .front ≡ broken → Scanned l
+  whole-text : endsText (textOf l .behind) ≡ true → rowOf l ≡ row (text (textOf l .bytes)) (rowOf (textOf l .behind) .fields) → Scanned l
+  bad-text : endsText (textOf l .behind) ≡ false → rowOf l .front ≡ broken → Scanned l
 
 -- a byte more
 further : (b : ℕ) (l bs : List ℕ) → textOf l ≡ withByte b (textOf bs) → rowOf l ≡ stands b (rowOf bs) → Scanned bs → Scanned l
@@ -39,7 +39,7 @@ further b l bs e f (whole-text m r) = whole-text (rw e m) (rw (e, f) (ap (stands
 further b l bs e f (bad-text m r) = bad-text (rw e m) (rw f (ap (joins b) r))
 
 pub scanned : (l : List ℕ) → Scanned l
-unfolding textOf marked rowOf startsName startsValue
+unfolding textOf endsText rowOf startsName startsValue
 scanned [] = whole-text refl refl
 scanned (zero ∷ bs) = whole-text refl refl
 scanned (suc zero ∷ bs) = whole-text refl refl

@@ -32,19 +32,19 @@ textOf (suc (suc (suc zero)) ∷ bs) = cut [] (suc (suc (suc zero)) ∷ bs)
 textOf (suc (suc (suc (suc b))) ∷ bs) = withByte (suc (suc (suc (suc b)))) (textOf bs)
 
 -- behind a text that is whole stands nothing, or a VAR, VALUE or USERVAR
-unfoldable pub marked : List ℕ → Bool
-marked [] = true
-marked (zero ∷ bs) = true
-marked (suc zero ∷ bs) = true
-marked (suc (suc zero) ∷ bs) = false
-marked (suc (suc (suc zero)) ∷ bs) = true
-marked (suc (suc (suc (suc b))) ∷ bs) = false
+unfoldable pub endsText : List ℕ → Bool
+endsText [] = true
+endsText (zero ∷ bs) = true
+endsText (suc zero ∷ bs) = true
+endsText (suc (suc zero) ∷ bs) = false
+endsText (suc (suc (suc zero)) ∷ bs) = true
+endsText (suc (suc (suc (suc b))) ∷ bs) = false
 
 -- the text from a place on: whole, where nothing stands behind it, or a VAR, VALUE or USERVAR; its length, and the place behind it
 unfoldable pub textAt : List ℕ → ℕ → Text
 textAt s from =
     let t = textOf (drop from s) in
-    record { whole = marked (t .behind); length = length (t .bytes); end = length s - length (t .behind) }
+    record { whole = endsText (t .behind); length = length (t .bytes); end = length s - length (t .behind) }
 
 -- the first bytes of a text, put at a place of a buffer; where there is no room for so many a refusal, and the buffer is as it was
 unfoldable pub copyText : List ℕ → ℕ → ℕ → List ℕ → ℕ → Outcome Bool

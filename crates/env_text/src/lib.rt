@@ -2,7 +2,7 @@
 ghost use mathlib.Core.Path.{_≡_};
 ghost use Prim.Native.Nat.{_≤_};
 ghost use lib.ListN.{length, drop};
-ghost use Rattle.env_text.specs.Text.{marked, textAt, copyText};
+ghost use Rattle.env_text.specs.Text.{endsText, textAt, copyText};
 ghost use Rattle.env_text.specs.near.Scan.{IsWidth, IsExtent};
 ghost use Rattle.octets.specs.Lent.{outcome};
 use octets::no_room;
@@ -43,8 +43,8 @@ fn width_at(s: &[u8], i: usize) -> usize
 }
 
 // Whether nothing stands at a place, or a VAR, VALUE or USERVAR.
-fn is_marked(s: &[u8], i: usize) -> bool
-    ensures { λ r. ⌜ r ≡ marked (drop i (now (s .entry))) ⌝ }
+fn ends_text(s: &[u8], i: usize) -> bool
+    ensures { λ r. ⌜ r ≡ endsText (drop i (now (s .entry))) ⌝ }
 {
     if s.len() <= i {
         return true;
@@ -83,7 +83,7 @@ pub fn text_at(s: &[u8], from: usize) -> Text
         };
     }
     let e = extent_at(s, from);
-    let whole = is_marked(s, e.end);
+    let whole = ends_text(s, e.end);
     Text {
         whole: whole,
         length: e.length,

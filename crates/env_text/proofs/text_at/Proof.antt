@@ -13,13 +13,13 @@ returns c =
 extent-at-requires : tie.Need-extent-at-requires
 extent-at-requires c κs = search needs
 
-is-marked-requires : tie.Need-is-marked-requires
-is-marked-requires c κs = search needs
+ends-text-requires : tie.Need-ends-text-requires
+ends-text-requires c κs = search needs
 
 returns-2 : tie.Need-returns-2
 returns-2 c =
     let a = c .before .before .before .before .args in
-    text-found (a .s .now) (a .from) (c .before .extent-at .result) _ (c .before .extent-at .ensures) (c .is-marked .ensures)
+    text-found (a .s .now) (a .from) (c .before .extent-at .result) _ (c .before .extent-at .ensures) (c .ends-text .ensures)
 
 pub text-at-spec : {M : Type 1} → statement M
-text-at-spec = tie.close (tie.spec returns extent-at-requires is-marked-requires returns-2)
+text-at-spec = tie.close (tie.spec returns extent-at-requires ends-text-requires returns-2)

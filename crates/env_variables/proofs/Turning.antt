@@ -9,14 +9,14 @@ use native.Mathlib.Omega.{arith}
 use borrow.Author.Tests.{eqb-true, lt-ltb, le-ltb}
 use lib.Dec.{leb}
 use lib.ListN.{length, getD, drop, length-append}
-use Rattle.env_reader.specs.declared.Found.{Found as Answered}
-use Rattle.env_reader.specs.declared.Found.the-variants.{Variables, Fault}
-use Rattle.env_reader.specs.near.Found.{Buffers, buffers, NameRead}
-use Rattle.env_reader.specs.near.Texts.{givesValue, IsTaken}
-use Rattle.env_reader.specs.near.Turns.{fromName, Valued, valued, badValue, followed, fromValue, completed}
-use Rattle.env_reader.specs.near.Turns.{IsValue, ValueRead}
+use Rattle.env_variables.specs.declared.Found.{Found as Answered}
+use Rattle.env_variables.specs.declared.Found.the-variants.{Variables, Fault}
+use Rattle.env_variables.specs.near.Found.{Buffers, buffers, NameRead}
+use Rattle.env_variables.specs.near.Texts.{givesValue, IsTaken}
+use Rattle.env_variables.specs.near.Turns.{fromName, Valued, valued, badValue, followed, fromValue, completed}
+use Rattle.env_variables.specs.near.Turns.{IsValue, ValueRead}
 use Rattle.env_text.specs.declared.Text.{Text as Taken}
-use Rattle.env_text.specs.Text.{textOf, marked}
+use Rattle.env_text.specs.Text.{textOf, endsText}
 use Rattle.env_text.proofs.Standing.{row-marked}
 use Rattle.env.specs.Variable.{variable, variableLimit, VAR, USERVAR, isKind}
 use Rattle.env.specs.Fields.{Text, text, broken, Field, nameField, valueField, row, rowOf, joins, stands, escapes, startsName, startsValue}
@@ -178,7 +178,7 @@ name-turn number at k l bytes₀ bytes₁ numbers₀ t r bytes numbers is w n h 
     rw found (with-name kind name (fromValue k fs) at k bytes₀ numbers₀ r bytes numbers (rw (← is .texts w, ← is .count) more) fit)
 
 -- where no text stands, the name reader's finding is that of the fields
-from-marked : (number k : ℕ) (l : List ℕ) → marked l ≡ true → fromName number k (rowOf l) ≡ names number k (rowOf l .fields)
+from-marked : (number k : ℕ) (l : List ℕ) → endsText l ≡ true → fromName number k (rowOf l) ≡ names number k (rowOf l .fields)
 unfolding expectNoText
 from-marked number k l m = rw (row-marked l m)
 
@@ -189,9 +189,9 @@ any-number m n k kind u [] = refl
 any-number m n k kind u (nameField kind₂ v ∷ fs) = refl
 any-number m n k kind u (valueField v ∷ fs) = refl
 
-value-of-none : (k : ℕ) (l : List ℕ) → marked l ≡ true → givesValue l ≡ false
+value-of-none : (k : ℕ) (l : List ℕ) → endsText l ≡ true → givesValue l ≡ false
     → fromValue k (rowOf l .fields) ≡ followed [] (names valueInValue (suc k) (rowOf l .fields))
-unfolding marked givesValue rowOf startsName fromValue names
+unfolding endsText givesValue rowOf startsName fromValue names
 value-of-none k [] m e = refl
 value-of-none k (zero ∷ bs) m e = ap (followed []) (any-number noVariable valueInValue (suc k) VAR (rowOf bs .front) (rowOf bs .fields))
 value-of-none k (suc zero ∷ bs) m e = cc
@@ -205,11 +205,11 @@ value-of k [] e = cc
 value-of k (b ∷ bs) e = rw (eqb-true b 1 e)
 
 -- what the name reader finds where no text stands, one variable further
-next-name : (k : ℕ) (l : List ℕ) → marked l ≡ true → names valueInValue (suc k) (rowOf l .fields) ≡ fromName valueInValue (k + 1) (rowOf l)
+next-name : (k : ℕ) (l : List ℕ) → endsText l ≡ true → names valueInValue (suc k) (rowOf l .fields) ≡ fromName valueInValue (k + 1) (rowOf l)
 next-name k l m = ap (λ i. names valueInValue i (rowOf l .fields)) (sym (add-one k)) ∙ sym (from-marked valueInValue (k + 1) l m)
 
 -- a name without VALUE
-pub no-value : (l bytes : List ℕ) (at : ℕ) → marked l ≡ true → givesValue l ≡ false
+pub no-value : (l bytes : List ℕ) (at : ℕ) → endsText l ≡ true → givesValue l ≡ false
     → IsValue l bytes at (record { whole = true; length = 0; end = 0 }) bytes
 no-value l bytes at m e = record {
   value = [];

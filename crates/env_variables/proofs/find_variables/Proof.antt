@@ -1,8 +1,8 @@
--- `env_reader::find_variables` meets its contract: the two arrays have the room that the name reader asks for. Assumes nothing.
+-- `env_variables::find_variables` meets its contract: the two arrays have the room that the name reader asks for. Assumes nothing.
 use borrow.Author.Needs.{needs}
 use Rattle.env.specs.Read.{variablesOf}
-use Rattle.env_reader.proofs.find_variables.Statement.{statement}
-use Rattle.env_reader.proofs.find_variables.Tie as tie
+use Rattle.env_variables.proofs.find_variables.Statement.{statement}
+use Rattle.env_variables.proofs.find_variables.Tie as tie
 
 name-requires : tie.Need-name-requires
 name-requires c κs = search needs

@@ -3,8 +3,8 @@ use mathlib.Core.Path.{_≡_}
 use mathlib.Core.List.{List}
 use Prim.Native.Nat.{ℕ, _+_, _*_, _≤_}
 use lib.ListN.{length}
-use Rattle.env_reader.specs.declared.Found.{Found as Answered}
-use Rattle.env_reader.specs.declared.Found.the-variants.{Variables, Fault}
+use Rattle.env_variables.specs.declared.Found.{Found as Answered}
+use Rattle.env_variables.specs.declared.Found.the-variants.{Variables, Fault}
 use Rattle.env.specs.Variable.{variableLimit}
 use Rattle.env.specs.Read.{Found, variables, fault}
 use Rattle.env.specs.Numbers.{recordWidth, packed, recorded}

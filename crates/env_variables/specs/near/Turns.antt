@@ -5,9 +5,9 @@ use mathlib.Core.List.{List, [], _∷_, _++_}
 use Prim.Native.Nat.{ℕ, suc, _+_, _*_, _≤_}
 use lib.ListN.{length, drop}
 use Rattle.telnet.specs.Event.{payloadLimit}
-use Rattle.env_reader.specs.declared.Found.{Found as Answered}
-use Rattle.env_reader.specs.declared.Found.the-variants.{Fault}
-use Rattle.env_reader.specs.near.Found.{Buffers, Stored}
+use Rattle.env_variables.specs.declared.Found.{Found as Answered}
+use Rattle.env_variables.specs.declared.Found.the-variants.{Fault}
+use Rattle.env_variables.specs.near.Found.{Buffers, Stored}
 use Rattle.env_text.specs.declared.Text.{Text}
 use Rattle.env.specs.Variable.{Variable, variable, variableLimit}
 use Rattle.env.specs.Fields.{text, broken, Field, nameField, valueField, Row, rowOf}

@@ -1,10 +1,10 @@
--- `env_text::is_marked` meets its contract. Assumes nothing.
+-- `env_text::ends_text` meets its contract. Assumes nothing.
 use mathlib.Core.Path.{sym}
 use native.Mathlib.Omega.{arith}
 use Rattle.env_text.proofs.Scanning.{marked-end, marked-escape, marked-other}
 use borrow.Author.Needs.{needs}
-use Rattle.env_text.proofs.is_marked.Statement.{statement}
-use Rattle.env_text.proofs.is_marked.Tie as tie
+use Rattle.env_text.proofs.ends_text.Statement.{statement}
+use Rattle.env_text.proofs.ends_text.Tie as tie
 
 returns : tie.Need-returns
 returns c = sym (marked-end _ _ (c .if1 .taken))
@@ -25,6 +25,6 @@ returns-3 c =
     let a = c .before .before .before .before .args in
     sym (marked-other (a .s .now) (a .i) (omega arith) (c .before .if2 .left))
 
-pub is-marked-spec : {M : Type 1} → statement M
-is-marked-spec =
+pub ends-text-spec : {M : Type 1} → statement M
+ends-text-spec =
     tie.close (tie.spec returns shared-slice-read-if2 returns-2 shared-slice-read-result returns-3)

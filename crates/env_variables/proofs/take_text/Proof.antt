@@ -1,9 +1,9 @@
--- `env_reader::take_text` meets its contract: the text that was found and copied is the text of the row. Assumes nothing.
+-- `env_variables::take_text` meets its contract: the text that was found and copied is the text of the row. Assumes nothing.
 use native.Mathlib.Omega.{arith}
 use borrow.Author.Needs.{needs}
-use Rattle.env_reader.proofs.Texts.{taken}
-use Rattle.env_reader.proofs.take_text.Statement.{statement}
-use Rattle.env_reader.proofs.take_text.Tie as tie
+use Rattle.env_variables.proofs.Texts.{taken}
+use Rattle.env_variables.proofs.take_text.Statement.{statement}
+use Rattle.env_variables.proofs.take_text.Tie as tie
 
 text-at-requires : tie.Need-text-at-requires
 text-at-requires c κs = search needs

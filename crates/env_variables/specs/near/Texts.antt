@@ -6,7 +6,7 @@ use Prim.Native.Nat.{ℕ, _+_, _≤_}
 use lib.Dec.{eqb}
 use lib.ListN.{length, drop}
 use Rattle.env_text.specs.declared.Text.{Text}
-use Rattle.env_text.specs.Text.{textOf, marked}
+use Rattle.env_text.specs.Text.{textOf, endsText}
 use Rattle.env.specs.Variable.{VALUE}
 use Rattle.env.specs.Fields.{text, broken, row, rowOf}
 use Rattle.octets.specs.Lent.{overwrite}
@@ -20,7 +20,7 @@ givesValue (b ∷ bs) = eqb b VALUE
 pub record IsTaken (rest bytes₀ : List ℕ) (at : ℕ) (r : Text) (bytes : List ℕ) : Type 0 where
   pub bad : r .whole ≡ false → rowOf (drop 1 rest) .front ≡ broken
   pub good : r .whole ≡ true → rowOf (drop 1 rest) ≡ row (text (textOf (drop 1 rest) .bytes)) (rowOf (drop (r .end) rest) .fields)
-  pub mark : r .whole ≡ true → marked (drop (r .end) rest) ≡ true
+  pub mark : r .whole ≡ true → endsText (drop (r .end) rest) ≡ true
   pub texts : r .whole ≡ true → bytes ≡ overwrite bytes₀ at (textOf (drop 1 rest) .bytes)
   pub count : r .length ≡ length (textOf (drop 1 rest) .bytes)
   pub forward : 1 + r .length ≤ r .end

@@ -1,12 +1,12 @@
--- `env_reader::take_value` meets its contract: no VALUE stands there, or it is the text behind the VALUE. Assumes nothing.
+-- `env_variables::take_value` meets its contract: no VALUE stands there, or it is the text behind the VALUE. Assumes nothing.
 use mathlib.Core.Path.{sym, _∙_}
 use native.Mathlib.Omega.{arith}
 use borrow.Author.Needs.{needs}
 use borrow.Author.Tests.{not-true, not-false}
-use Rattle.env_reader.proofs.Texts.{gives-some}
-use Rattle.env_reader.proofs.Turning.{no-value, some-value}
-use Rattle.env_reader.proofs.take_value.Statement.{statement}
-use Rattle.env_reader.proofs.take_value.Tie as tie
+use Rattle.env_variables.proofs.Texts.{gives-some}
+use Rattle.env_variables.proofs.Turning.{no-value, some-value}
+use Rattle.env_variables.proofs.take_value.Statement.{statement}
+use Rattle.env_variables.proofs.take_value.Tie as tie
 
 gives-value-requires : tie.Need-gives-value-requires
 gives-value-requires c κs = search needs

@@ -1,4 +1,4 @@
--- `env_reader::store` meets its contract: the list has room for the record. Assumes nothing.
+-- `env_variables::store` meets its contract: the list has room for the record. Assumes nothing.
 use mathlib.Core.List.{[], _∷_}
 use Prim.Native.Nat.{_+_, _*_, _≤_}
 use native.Mathlib.Omega.{arith}
@@ -6,8 +6,8 @@ use lib.ListN.{length}
 use Rattle.env.specs.Numbers.{recordWidth}
 use Rattle.octets.proofs.Promise.{put-whole}
 use borrow.Author.Needs.{needs}
-use Rattle.env_reader.proofs.store.Statement.{statement}
-use Rattle.env_reader.proofs.store.Tie as tie
+use Rattle.env_variables.proofs.store.Statement.{statement}
+use Rattle.env_variables.proofs.store.Tie as tie
 use Rattle.env_records.proofs.set_record.Reads as set-record-reads
 
 add-t9 : tie.Need-add-t9

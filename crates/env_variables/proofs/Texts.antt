@@ -6,9 +6,9 @@ use Prim.Native.Nat.{ℕ, _+_, _≤_, _<_}
 use native.Mathlib.Omega.{arith}
 use lib.Dec.{eqb}
 use lib.ListN.{length, getD, drop}
-use Rattle.env_reader.specs.near.Texts.{givesValue, IsTaken}
+use Rattle.env_variables.specs.near.Texts.{givesValue, IsTaken}
 use Rattle.env_text.specs.declared.Text.{Text}
-use Rattle.env_text.specs.Text.{textOf, marked, textAt, copyText}
+use Rattle.env_text.specs.Text.{textOf, endsText, textAt, copyText}
 use Rattle.env_text.proofs.Copying.{copy-left}
 use Rattle.env_text.proofs.Standing.{Scanned, whole-text, bad-text, scanned, Placed, placed}
 use Rattle.octets.specs.Lent.{outcome, overwrite}

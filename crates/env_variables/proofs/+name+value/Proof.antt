@@ -1,31 +1,31 @@
--- `env_reader::name` and `env_reader::value` meet their contracts: each way through either is one of the laws of the turns. What is
+-- `env_variables::name` and `env_variables::value` meet their contracts: each way through either is one of the laws of the turns. What is
 -- left of the payload falls; a value reader that finds no VALUE hands on all of it, so it counts one more. Assumes nothing.
 use mathlib.Core.Path.{sym, _∙_}
 use native.Mathlib.Omega.{arith}
 use lib.ListN.{length, drop}
 use borrow.Author.Tests.{not-true, not-false}
 use Rattle.refusal.specs.Refusal.{noVariable, badEscape, tooManyVariables}
-use Rattle.env_reader.specs.near.Found.{buffers}
+use Rattle.env_variables.specs.near.Found.{buffers}
 use Rattle.env_text.specs.Text.{textOf}
 use Rattle.octets.proofs.Front.{empty, to-the-end}
-use Rattle.env_reader.proofs.Turning.{from-nil, from-value, from-other, from-kind, names-full, names-broken, names-empty, name-none, name-fault, name-turn}
-use Rattle.env_reader.proofs.Turning.{value-turn, value-fault}
+use Rattle.env_variables.proofs.Turning.{from-nil, from-value, from-other, from-kind, names-full, names-broken, names-empty, name-none, name-fault, name-turn}
+use Rattle.env_variables.proofs.Turning.{value-turn, value-fault}
 use Prim.Native.Nat.{ℕ, _+_, _*_, _<_}
 use borrow.Author.Needs.{needs}
 use borrow.Fn.Kinds.{In}
 use borrow.Fn.PlainCycle.{Measures, is, falls, and}
-use Rattle.env_reader.proofs.name.Reads as name
-use Rattle.env_reader.proofs.name.Kinds as name-kinds
-use Rattle.env_reader.proofs.+name+value.Lts-name as name-lts
-use Rattle.env_reader.proofs.value.Reads as value
-use Rattle.env_reader.proofs.value.Kinds as value-kinds
-use Rattle.env_reader.proofs.+name+value.Lts-value as value-lts
-use Rattle.env_reader.proofs.opens.Reads as opens-reads
-use Rattle.env_reader.proofs.store.Reads as store-reads
-use Rattle.env_reader.proofs.take_text.Reads as take-text-reads
-use Rattle.env_reader.proofs.take_value.Reads as take-value-reads
-use Rattle.env_reader.proofs.+name+value.{statement}
-use Rattle.env_reader.proofs.+name+value.Tie.{close}
+use Rattle.env_variables.proofs.name.Reads as name
+use Rattle.env_variables.proofs.name.Kinds as name-kinds
+use Rattle.env_variables.proofs.+name+value.Lts-name as name-lts
+use Rattle.env_variables.proofs.value.Reads as value
+use Rattle.env_variables.proofs.value.Kinds as value-kinds
+use Rattle.env_variables.proofs.+name+value.Lts-value as value-lts
+use Rattle.env_variables.proofs.opens.Reads as opens-reads
+use Rattle.env_variables.proofs.store.Reads as store-reads
+use Rattle.env_variables.proofs.take_text.Reads as take-text-reads
+use Rattle.env_variables.proofs.take_value.Reads as take-value-reads
+use Rattle.env_variables.proofs.+name+value.{statement}
+use Rattle.env_variables.proofs.+name+value.Tie.{close}
 
 abbrev μ-name : Measures 3 name-kinds.ps ℕ
 μ-name κs a = 2 * length (a .0 .now)

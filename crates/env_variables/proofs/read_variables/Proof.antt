@@ -1,11 +1,16 @@
--- `env_reader::read_variables` meets its contract: a fault is told, and the variables that were found are handed over. Assumes nothing.
+-- `env_variables::read_variables` meets its contract: a fault is told, and the variables that were found are delivered. Assumes nothing.
 use mathlib.Core.Path.{_∙_}
 use native.Mathlib.Nat.{sub-zero}
 use native.Mathlib.Omega.{arith}
 use borrow.Author.Needs.{needs}
-use Rattle.env_reader.proofs.Reading.{name-fault, name-variables, fault-delivered, variables-delivered}
-use Rattle.env_reader.proofs.read_variables.Statement.{statement}
-use Rattle.env_reader.proofs.read_variables.Tie as tie
+use Rattle.env_variables.proofs.Reading.{name-fault, name-variables, long-behind, fault-behind, variables-behind}
+use Rattle.env_variables.proofs.read_variables.Statement.{statement}
+use Rattle.env_variables.proofs.read_variables.Tie as tie
+
+returns : tie.Need-returns
+returns c =
+    let a = c .before .before .before .before .args in
+    long-behind (a .first) (a .rest .now) (a .bytes .now) (a .numbers .now) (omega arith)
 
 find-variables-requires : tie.Need-find-variables-requires
 find-variables-requires c κs = search needs
@@ -13,11 +18,11 @@ find-variables-requires c κs = search needs
 enum-known-n : tie.Need-enum-known-n
 enum-known-n c = search needs
 
-returns : tie.Need-returns
-returns c =
-    let a = c .before .before .before .before .before .before .before .before .before .args in
+returns-2 : tie.Need-returns-2
+returns-2 c =
+    let a = c .before .before .before .before .before .before .before .before .before .before .args in
     let found = name-fault _ (c .before .n .given .0 .0) 0 0 _ _ _ (c .before .before .before .find-variables .ensures) (c .before .n .given .1) in
-    fault-delivered (a .first) (a .rest .now) (a .bytes .now) (a .numbers .now) _ found
+    fault-behind (a .first) (a .rest .now) (a .bytes .now) (a .numbers .now) _ (omega (arith, c .before .before .before .before .before .before .if1 .left)) found
 
 enum-known-count : tie.Need-enum-known-count
 enum-known-count c = search needs
@@ -58,20 +63,21 @@ same-length c = search needs
 same-length-2 : tie.Need-same-length-2
 same-length-2 c = search needs
 
-returns-2 : tie.Need-returns-2
-returns-2 c =
-    let a = c .before .before .before .before .before .before .before .before .before .before .before .before .before .before .before .before .before .before .before .before .args in
+returns-3 : tie.Need-returns-3
+returns-3 c =
+    let a = c .before .before .before .before .before .before .before .before .before .before .before .before .before .before .before .before .before .before .before .before .before .args in
     let all = name-variables _ _ _ _ _ _ (c .before .before .before .before .before .before .before .before .before .before .before .before .before .before .find-variables .ensures) (c .before .before .before .before .before .before .before .before .before .before .before .before .count .given .1) in
-    let whole = variables-delivered (a .first) (a .rest .now) (a .bytes .now) (a .numbers .now) (all .3 .all) (all .3 .those) in
+    let whole = variables-behind (a .first) (a .rest .now) (a .bytes .now) (a .numbers .now) (all .3 .all) (omega (arith, c .before .before .before .before .before .before .before .before .before .before .before .before .before .before .before .before .before .if1 .left)) (all .3 .those) in
     c .before .before .before .before .deliver .ensures ∙ rw (sub-zero, sub-zero, all .3 .texts, all .3 .records) whole
 
 pub read-variables-spec : {M : Type 1} → statement M
 read-variables-spec =
     tie.close
     (tie.spec
+    returns
     find-variables-requires
     enum-known-n
-    returns
+    returns-2
     enum-known-count
     sub-deliver
     part-deliver-start
@@ -83,4 +89,4 @@ read-variables-spec =
     deliver-requires
     same-length
     same-length-2
-    returns-2)
+    returns-3)

@@ -1,10 +1,10 @@
--- `env_reader::gives_value` meets its contract. Assumes nothing.
+-- `env_variables::gives_value` meets its contract. Assumes nothing.
 use mathlib.Core.Path.{sym}
 use native.Mathlib.Omega.{arith}
-use Rattle.env_reader.proofs.Texts.{none-given, given-at}
+use Rattle.env_variables.proofs.Texts.{none-given, given-at}
 use borrow.Author.Needs.{needs}
-use Rattle.env_reader.proofs.gives_value.Statement.{statement}
-use Rattle.env_reader.proofs.gives_value.Tie as tie
+use Rattle.env_variables.proofs.gives_value.Statement.{statement}
+use Rattle.env_variables.proofs.gives_value.Tie as tie
 
 returns : tie.Need-returns
 returns c = sym (none-given _ (c .if1 .taken))
