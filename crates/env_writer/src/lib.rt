@@ -8,8 +8,9 @@ ghost use lib.ListN.{length};
 ghost use Rattle.env.specs.Write.{escaped, writtenVariable, writtenVariables, nameless};
 ghost use Rattle.env.specs.Numbers.{variableOf, held, isPlaced, placed};
 ghost use Rattle.telnet.specs.Event.{payloadLimit};
-ghost use Rattle.octets.specs.Lent.{outcome, overwrite};
+ghost use Rattle.octets.specs.Lent.{outcome, overwrite, IsPut};
 ghost use Rattle.env_writer.specs.Promise.{writeInto};
+ghost use Rattle.env_writer.specs.near.Puts.{HasRoom};
 use env::PAYLOAD_LIMIT;
 use env::RECORD_WIDTH;
 use env::VARIABLE_LIMIT;
@@ -115,8 +116,7 @@ fn measure(bytes: &[u8], numbers: &[usize]) -> usize
 // Puts a variable at a place; the answer is the place behind it.
 fn put_variable(bytes: &[u8], v: VariableRecord, out: &mut [u8], at: usize) -> usize
     requires { ⌜ (isPlaced (now bytes) v ≡ true) × (at + length (writtenVariable (variableOf (now bytes) v)) ≤ length (now out)) ⌝ }
-    ensures { λ r. ⌜ (r ≡ at + length (writtenVariable (variableOf (now (bytes .entry)) v)))
-        × (now (out .exit) ≡ overwrite (now (out .entry)) at (writtenVariable (variableOf (now (bytes .entry)) v))) ⌝ }
+    ensures { λ r. ⌜ IsPut (writtenVariable (variableOf (now (bytes .entry)) v)) (now (out .entry)) at r (now (out .exit)) ⌝ }
 {
     let name = v.name_at;
     let name_end = name + v.name_length;
@@ -130,7 +130,7 @@ fn put_variable(bytes: &[u8], v: VariableRecord, out: &mut [u8], at: usize) -> u
 
 // Puts the variables behind the first byte.
 fn put_all(bytes: &[u8], numbers: &[usize], out: &mut [u8])
-    requires { ⌜ (placed (now bytes) (now numbers) ≡ true) × (1 + length (writtenVariables (held (now bytes) (now numbers))) ≤ length (now out)) ⌝ }
+    requires { ⌜ HasRoom (now bytes) (now numbers) (now out) ⌝ }
     ensures { λ _. ⌜ now (out .exit) ≡ overwrite (now (out .entry)) 1 (writtenVariables (held (now (bytes .entry)) (now (numbers .entry)))) ⌝ }
 {
     let mut i = 0;

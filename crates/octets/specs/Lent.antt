@@ -1,4 +1,5 @@
 -- What a function answers and leaves in the buffer that it is lent, as one value: every writer's promise is an equation of two outcomes.
+use mathlib.Core.Path.{_≡_}
 use Prim.Native.Nat.{ℕ, _+_}
 use mathlib.Core.List.{List, _++_}
 use lib.ListN.{length, take, drop}
@@ -13,3 +14,8 @@ outcome a l = record { answer = a; lent = l }
 -- a buffer with bytes put at a place: everything before and behind them is as it was
 unfoldable pub overwrite : List ℕ → ℕ → List ℕ → List ℕ
 overwrite buffer at bytes = take at buffer ++ (bytes ++ drop (at + length bytes) buffer)
+
+-- bytes put at a place, told by the place behind them and by the buffer as it is left
+pub record IsPut (bytes buffer : List ℕ) (at behind : ℕ) (left : List ℕ) : Type 0 where
+  pub place : behind ≡ at + length bytes
+  pub lent : left ≡ overwrite buffer at bytes

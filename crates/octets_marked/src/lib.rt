@@ -5,7 +5,7 @@ ghost use mathlib.Core.List.{[], _∷_};
 ghost use Prim.Native.Nat.{ℕ, _+_, _≤_};
 ghost use lib.Dec.{leb};
 ghost use lib.ListN.{length};
-ghost use Rattle.octets.specs.Lent.{outcome, overwrite};
+ghost use Rattle.octets.specs.Lent.{outcome, IsPut};
 ghost use Rattle.octets_marked.specs.Marked.{marked, putMarked};
 
 // Whether a byte lies in a range, its two ends included.
@@ -44,8 +44,7 @@ pub fn marked_length(bytes: &[u8], low: u8, high: u8) -> usize
 // Puts a byte at a place, behind its mark where it has one; the answer is the place behind it.
 fn put_byte(b: u8, mark: u8, low: u8, high: u8, out: &mut [u8], at: usize) -> usize
     requires { ⌜ at + length (marked mark low high (b ∷ [])) ≤ length (now out) ⌝ }
-    ensures { λ r. ⌜ (r ≡ at + length (marked mark low high (b ∷ [])))
-        × (now (out .exit) ≡ overwrite (now (out .entry)) at (marked mark low high (b ∷ []))) ⌝ }
+    ensures { λ r. ⌜ IsPut (marked mark low high (b ∷ [])) (now (out .entry)) at r (now (out .exit)) ⌝ }
 {
     if lies(b, low, high) {
         out[at] = mark;

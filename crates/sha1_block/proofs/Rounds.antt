@@ -9,7 +9,7 @@ use lib.ListN.{length, take, set}
 use lib.Seq.{length-take-le, take-suc-set}
 use borrow.Author.Tests.{lt-ltb, le-ltb}
 use Rattle.sha1.specs.Sha1.{Five, byRound, extended, schedule, round, rounds}
-use Rattle.sha1_block.specs.near.Between.{planned, Rounded, Carried}
+use Rattle.sha1_block.specs.near.Between.{planned, Rounded}
 use Rattle.sha1_block.proofs.Schedule.{none-left}
 
 module _ {A : Type 0} (x y z u : A) (t : ℕ) where
@@ -60,7 +60,8 @@ rounded-first block H w = record { plan = refl; variables = refl }
 
 -- a round, with its word put into the array
 pub carried-one : (block : List ℕ) (t : ℕ) (w : List ℕ) (s : Five) (x : ℕ) → t < length w
-    → planned block (t + 1) (take t w ++ x ∷ []) ≡ planned block t (take t w) → Carried block t w s (t + 1) (set w t x) (round t x s)
+    → planned block (t + 1) (take t w ++ x ∷ []) ≡ planned block t (take t w)
+    → (H : Five) → Rounded block H t w s → Rounded block H (t + 1) (set w t x) (round t x s)
 unfolding rounds
 carried-one block t w s x h p H r =
     let e : take (t + 1) (set w t x) ≡ take t w ++ x ∷ [] = rw (add-one, take-suc-set w t x h) in

@@ -102,7 +102,7 @@ fn word(block: &[u8], w: &[u32; 80], t: usize) -> u32
 // The twenty rounds of a stage.
 fn twenty(s: Words, block: &[u8], w: &mut [u32; 80], stage: usize) -> Words
     requires { ⌜ (stage < 4) × (length (now block) ≡ 64) × (length (now w) ≡ 80) ⌝ }
-    ensures { λ r. ⌜ (length (now (w .exit)) ≡ 80) × Carried (now (block .entry)) (20 * stage) (now (w .entry)) (five s) (20 * stage + 20) (now (w .exit)) (five r) ⌝ }
+    ensures { λ r. ⌜ Carried (now (block .entry)) (20 * stage) (now (w .entry)) (five s) (20 * stage + 20) (now (w .exit)) (five r) ⌝ }
 {
     let mut s = s;
     let mut t = 20 * stage;

@@ -25,7 +25,7 @@ abbrev μ-loop : tie.MeasureT-loop
 μ-loop bytes numbers out₀ i₀ at₀ out i at = length numbers / recordWidth - i
 
 loop-holds : tie.Need-loop-holds Inv-loop μ-loop
-loop-holds c = let s = c .before .before .before in (s .pre .0, refl, s .pre .1, refl)
+loop-holds c = let s = c .before .before .before in (s .pre .all-placed, refl, s .pre .room, refl)
 
 record-at-requires : tie.Need-record-at-requires Inv-loop μ-loop
 record-at-requires c κs = search needs
@@ -62,12 +62,12 @@ loop-again c =
     let n = length-written-from bytes numbers (l .i) t in
     let one = writtenVariable (variableOf bytes (recordAt numbers (l .i))) in
     let rest = writtenVariables (held bytes (drop (recordWidth * (l .i + 1)) numbers)) in
-    let place : p .result ≡ l .at + length one = p .ensures .0 ∙ ap (λ w. l .at + length w) this in
+    let place : p .result ≡ l .at + length one = p .ensures .place ∙ ap (λ w. l .at + length w) this in
     let variable = overwrite-append (l .out) (l .at) one rest (omega (arith, n, l .inv .1, l .inv .2)) in (
       good-from bytes numbers (l .i) t (l .inv .0) .1,
       p .kept .1 .1 .0 ∙ l .inv .1,
       omega (arith, n, place, l .inv .2),
-      ap₂ (λ m j. overwrite m j rest) (p .ensures .1 ∙ ap (overwrite (l .out) (l .at)) this) place
+      ap₂ (λ m j. overwrite m j rest) (p .ensures .lent ∙ ap (overwrite (l .out) (l .at)) this) place
           ∙ variable ∙ ap (overwrite (l .out) (l .at)) (sym (written-from bytes numbers (l .i) t)) ∙ l .inv .3,
     )
 

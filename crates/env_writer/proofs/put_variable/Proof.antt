@@ -108,11 +108,11 @@ returns c =
     let before = set (n .put-marked .last .1 .1 .1 .1 .0) k VALUE in
     let fits : k + 1 + length (value s) ≤ length before = simp length-set (omega (arith, room s, named n .0, kept n)) in
     let same = lent-marked (s .args .bytes .now) (v .«value_at») (v .«value_length») in
-    let last = put-whole ESC 0 3 _ before (k + 1) (value s) same fits (c .before .before .put-marked2 .ensures) in (
-      omega (arith, last .0, named n .0, length-written (s .args .bytes .now) v),
-      last .1 ∙ ap (λ l. overwrite (set l k VALUE) (k + 1) (value s)) (named n .1)
-          ∙ stored-variable (s .args .out .now) (s .args .at) k (v .kind) (name s) (value s) (named n .0) (omega (arith, room s, named n .0)),
-    )
+    let last = put-whole ESC 0 3 _ before (k + 1) (value s) same fits (c .before .before .put-marked2 .ensures) in record {
+      place = omega (arith, last .0, named n .0, length-written (s .args .bytes .now) v);
+      lent = last .1 ∙ ap (λ l. overwrite (set l k VALUE) (k + 1) (value s)) (named n .1)
+          ∙ stored-variable (s .args .out .now) (s .args .at) k (v .kind) (name s) (value s) (named n .0) (omega (arith, room s, named n .0));
+    }
 
 pub put-variable-spec : {M : Type 1} → statement M
 put-variable-spec =

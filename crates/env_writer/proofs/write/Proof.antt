@@ -126,11 +126,11 @@ put-all-requires c κs =
     let t = c .before in
     let m = t .before .before in
     let a = start₅ (m .before) .args in
-    let k = cleared (m .before) in (
-      k .good,
-      space (a .first) (a .bytes .now) (a .numbers .now) (a .out .now) (k .begins) (k .good) (k .named) (k .few) (k .distinct)
-          (m .measure .result) (m .measure .ensures) (t .before .if6 .left) (t .if7 .left),
-    )
+    let k = cleared (m .before) in record {
+      all-placed = k .good;
+      room = space (a .first) (a .bytes .now) (a .numbers .now) (a .out .now) (k .begins) (k .good) (k .named) (k .few) (k .distinct)
+          (m .measure .result) (m .measure .ensures) (t .before .if6 .left) (t .if7 .left);
+    }
 
 same-length : tie.Need-same-length
 same-length c = c .before .before .put-all .kept .1 .1 .0 ∙ simp length-set

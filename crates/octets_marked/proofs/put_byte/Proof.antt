@@ -51,7 +51,7 @@ same-length c = search needs
 returns : tie.Need-returns
 returns c =
     let a = c .before .before .before .args in
-    rw (pair c, ← stored-pair (a .out .now) (a .at) (a .mark) (a .b) (fits-two c)) (refl, refl)
+    rw (pair c) (record { place = refl; lent = stored-pair (a .out .now) (a .at) (a .mark) (a .b) (fits-two c) })
 
 slice-write-out-3 : tie.Need-slice-write-out-3
 slice-write-out-3 c = omega (arith, fits-one c)
@@ -65,7 +65,7 @@ same-length-2 c = search needs
 returns-2 : tie.Need-returns-2
 returns-2 c =
     let a = c .before .before .before .args in
-    rw (one c, ← stored (a .b ∷ []) (a .out .now) (a .at) (fits-one c)) (refl, refl)
+    rw (one c) (record { place = refl; lent = stored (a .b ∷ []) (a .out .now) (a .at) (fits-one c) })
 
 pub put-byte-spec : {M : Type 1} → statement M
 put-byte-spec =

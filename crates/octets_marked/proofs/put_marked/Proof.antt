@@ -80,8 +80,8 @@ loop-again c =
     let byte = overwrite-append (l .out) (l .k) one rest (omega (arith, n, l .inv .1, l .inv .2, room start)) in (
       omega arith,
       p .kept .1 .1 .1 .1 .0 ∙ l .inv .1,
-      omega (arith, n, p .ensures .0, l .inv .2),
-      ap₂ (λ m j. overwrite m j rest) (p .ensures .1) (p .ensures .0)
+      omega (arith, n, p .ensures .place, l .inv .2),
+      ap₂ (λ m j. overwrite m j rest) (p .ensures .lent) (p .ensures .place)
           ∙ byte ∙ ap (overwrite (l .out) (l .k)) (sym (marked-at (a .mark) (a .low) (a .high) s (l .i) t)) ∙ l .inv .3,
     )
 

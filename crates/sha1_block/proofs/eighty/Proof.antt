@@ -26,9 +26,9 @@ returns c =
     let start = first .before .before .before in
     let b = start .args .block .now in
     let H = five (start .args .h) in
-    let r₁ = first .twenty .ensures .1 H (rounded-first b H (replicate 80 0)) in
-    let r₃ = third .twenty3 .ensures .1 H (second .twenty2 .ensures .1 H r₁) in
-    rounded-last b H _ _ (start .pre) (c .twenty4 .ensures .1 H r₃)
+    let r₁ = first .twenty .ensures .rounded H (rounded-first b H (replicate 80 0)) in
+    let r₃ = third .twenty3 .ensures .rounded H (second .twenty2 .ensures .rounded H r₁) in
+    rounded-last b H _ _ (start .pre) (c .twenty4 .ensures .rounded H r₃)
 
 pub eighty-spec : {M : Type 1} → statement M
 eighty-spec =

@@ -13,7 +13,7 @@ use Rattle.sha1_block.proofs.twenty.Tie as tie
 
 abbrev Inv-loop : tie.InvT-loop
 Inv-loop block w₀ stage s₀ t₀ end w s t =
-    (end ≡ 20 * stage + 20) × (20 * stage ≤ t) × (t ≤ end) × (length w ≡ 80) × Carried block (20 * stage) w₀ (five s₀) t w (five s)
+    (end ≡ 20 * stage + 20) × (20 * stage ≤ t) × (t ≤ end) × Carried block (20 * stage) w₀ (five s₀) t w (five s)
 
 abbrev μ-loop : tie.MeasureT-loop
 μ-loop block w₀ stage s₀ t₀ end w s t = end - t
@@ -25,7 +25,7 @@ add-end : tie.Need-add-end Inv-loop μ-loop
 add-end c = search needs
 
 loop-holds : tie.Need-loop-holds Inv-loop μ-loop
-loop-holds c = (refl, le-refl (20 * c .before .args .stage), omega arith, c .before .pre .2, λ H r. r)
+loop-holds c = (refl, le-refl (20 * c .before .args .stage), omega arith, record { words = c .before .pre .2; rounded = λ H r. r })
 
 word-requires : tie.Need-word-requires Inv-loop μ-loop
 word-requires c κs = search needs
@@ -55,15 +55,17 @@ loop-again c =
       refl,
       omega arith,
       omega arith,
-      length-set (l .w) (l .t) (x .result) ∙ l .inv .3,
-      λ H r. rw (c .step .ensures, ← same) (more H (l .inv .4 H r)),
+      record {
+        words = length-set (l .w) (l .t) (x .result) ∙ l .inv .3 .words;
+        rounded = λ H r. rw (c .step .ensures, ← same) (more H (l .inv .3 .rounded H r));
+      },
     )
 
 returns : tie.Need-returns Inv-loop μ-loop
 returns c =
     let l = c .before .loop in
     let e : l .t ≡ 20 * c .before .before .before .args .stage + 20 = omega arith in
-    (l .inv .3, rw (← e) (l .inv .4))
+    rw (← e) (l .inv .3)
 
 pub twenty-spec : {M : Type 1} → statement M
 twenty-spec =

@@ -2,7 +2,7 @@
 use mathlib.Core.Path.{_≡_}
 use mathlib.Core.List.{List, _++_}
 use Prim.Native.Nat.{ℕ, _-_, _*_}
-use lib.ListN.{take, drop}
+use lib.ListN.{length, take, drop}
 use Rattle.words.specs.Blocks.{wordsOf}
 use Rattle.sha1.specs.Sha1.{Five, extended, schedule, rounds}
 
@@ -15,6 +15,7 @@ pub record Rounded (block : List ℕ) (H : Five) (t : ℕ) (w : List ℕ) (s : F
   pub plan : planned block t (take t w) ≡ schedule block
   pub variables : s ≡ rounds 0 (take t w) H
 
--- the rounds from t to u, whatever hash value the first of all began from
-abbrev pub Carried : List ℕ → ℕ → List ℕ → Five → ℕ → List ℕ → Five → Type 0
-Carried block t w s u w′ s′ = (H : Five) → Rounded block H t w s → Rounded block H u w′ s′
+-- the rounds from t to u, whatever hash value the first of all began from; the array keeps its 80 words
+pub record Carried (block : List ℕ) (t : ℕ) (w : List ℕ) (s : Five) (u : ℕ) (w′ : List ℕ) (s′ : Five) : Type 0 where
+  pub words : length w′ ≡ 80
+  pub rounded : (H : Five) → Rounded block H t w s → Rounded block H u w′ s′
