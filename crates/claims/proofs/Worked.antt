@@ -6,7 +6,7 @@ use Prim.Native.Nat.{ℕ, zero, suc, _+_, _≤_, _<_}
 use native.Mathlib.Omega.{arith}
 use lib.ListN.{length, replicate}
 use borrow.Author.Tests.{le-ltb}
-use Rattle.refusal.specs.Refusal.{payloadTooLong, notIsOrInfo}
+use Rattle.refusal.specs.Refusal.{payloadTooLong, notIsOrInfo, badTable}
 use Rattle.names.specs.Name.{raisedByte}
 use Rattle.names.specs.Padding.{filled}
 use Rattle.names.specs.Ebcdic.{ebcdic}
@@ -27,7 +27,8 @@ use Rattle.option_rules.proofs.Chosen.{rules-carried}
 use Rattle.option_ends.specs.Ends.{End, near, far, other, at, taken, callResult, sentBy, stepped, changed, move, after, countWhere}
 use Rattle.option_ends.specs.Ends.{isCommand, sends, same}
 use Rattle.print_frame.specs.Frame.{goes, isFlow, directionOf, isReserved, isOperation, operationOf, headerOf, frameOf}
-use Rattle.claims.specs.Worked.{isRead, bothRequestOn, Holds, AllHold, lines}
+use Rattle.profile.specs.Table.{profiles, refused, unlessEnd, recordsOf, tableOf}
+use Rattle.claims.specs.Worked.{isRead, bothRequestOn, isTable, Holds, AllHold, lines}
 use Rattle.claims.specs.Worked.{twoRequests, sendsAt, RestOn, lettersA}
 
 none-said : Holds (isRead (0 ∷ []) (says IS []))
@@ -69,6 +70,14 @@ both-request-on : Holds bothRequestOn
 both-request-on option c x y a b =
     subst⁻¹ (λ (r : Side → Row). RestOn r (twoRequests x y a b)) (rules-carried option c) (computed x y a b)
 
+empty-table : Holds (isTable (0x01 ∷ []) (profiles []))
+unfolding tableOf recordsOf unlessEnd
+empty-table = refl
+
+other-version : Holds (isTable (0x02 ∷ []) (refused badTable))
+unfolding tableOf
+other-version = refl
+
 pub all-hold : AllHold lines
 unfolding raisedByte filled ebcdic folded userID escaped eventOf runOr afterIac afterLead lead afterSb closed undoubled doubled goes isFlow directionOf isReserved isOperation operationOf headerOf frameOf
 all-hold = (
@@ -89,7 +98,7 @@ all-hold = (
                 refl,
                 (
                   refl,
-                  (refl, (refl, (letters-read 1020 (omega arith), (letters-refused 1021 (omega arith), (both-request-on, (refl, (refl, tt))))))),
+                  (refl, (refl, (letters-read 1020 (omega arith), (letters-refused 1021 (omega arith), (both-request-on, (refl, (refl, (empty-table, (other-version, tt))))))))),
                 ),
               ),
             ),

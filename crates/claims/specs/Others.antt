@@ -7,7 +7,8 @@ use Rattle.print_frame.specs.Theorems.{TooLongToSay}
 use Rattle.env.specs.Theorems.{IsBoth, AmongIsOccurs, RepeatedIsTwice}
 use Rattle.env.specs.Boundaries.{boundaries, AllRead}
 use Rattle.env_records.specs.Theorems.{FindsTheValue, AbsentWhereNone}
-use Rattle.names.specs.Theorems.{OwnEbcdic, Apart}
+use Rattle.names.specs.Theorems.{OwnEbcdic, Apart, StrictAndTotal}
+use Rattle.profile.specs.Theorems.{LookupIsMembership}
 use Rattle.des.specs.Theorems.{ParityIgnored, FinalUndoesInitial}
 use Rattle.telnet_listing.specs.Sample.{Sample}
 
@@ -34,6 +35,9 @@ pub record Others : Type 0 where
   -- The bytes of names have EBCDIC of their own, and no two the same.
   pub ownEbcdic : OwnEbcdic
   pub apart : Apart
+  -- The order of names is strict and total; so in a table no name is there twice, and a look-up is membership.
+  pub strictAndTotal : StrictAndTotal
+  pub lookupIsMembership : LookupIsMembership
   -- "The parity bits of a key are ignored."
   pub parityIgnored : ParityIgnored
   -- FIPS 46: the final permutation is the inverse of the initial one.

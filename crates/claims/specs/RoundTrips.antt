@@ -4,6 +4,7 @@ use Rattle.env.specs.Theorems as Env
 use Rattle.env_delivery.specs.Theorems.{ReadIsHeld, RoomSuffices}
 use Rattle.env_writer.specs.Theorems.{WroteReadsBack}
 use Rattle.env_list.specs.Theorems.{ListsTheVariables}
+use Rattle.profile.specs.Theorems.{RecordsReadBack, TablesReadBack, TablesWrittenBack}
 use Rattle.print_ledger.specs.Theorems.{PrintCompleteReadsBack, PrintCompleteIsAFrame}
 
 pub record RoundTrips : Type 0 where
@@ -37,3 +38,8 @@ pub record RoundTrips : Type 0 where
   pub roomSuffices : RoomSuffices
   -- The variables are held again also where the records are a list of structs.
   pub listsTheVariables : ListsTheVariables
+  -- A profile table of profiles that are well-formed, strictly ascending and at most 500 reads as those profiles, and the records of any shape do;
+  pub recordsReadBack : RecordsReadBack
+  pub tablesReadBack : TablesReadBack
+  -- and what is read without refusal, written, gives the bytes.
+  pub tablesWrittenBack : TablesWrittenBack

@@ -1,12 +1,11 @@
--- The worked lines of the specification that are marked P ("Worked lines of the line"), in its order, as one list of cases. The line on profile tables
--- has no subject yet.
+-- The worked lines of the specification that are marked P ("Worked lines of the line"), in its order, as one list of cases.
 use mathlib.Core.Path.{_≡_}
 use mathlib.Core.Bool.{Bool, false, _&&_}
 use mathlib.Core.List.{List, [], _∷_, _++_}
 use Prim.Native.Nat.{ℕ}
 use lib.Dec.{T}
 use lib.ListN.{replicate}
-use Rattle.refusal.specs.Refusal.{cutShort, payloadTooLong, badCommand, notIsOrInfo, badHeaderLength}
+use Rattle.refusal.specs.Refusal.{cutShort, payloadTooLong, badCommand, notIsOrInfo, badHeaderLength, badTable}
 use Rattle.octets.specs.Ascii.{ascii}
 use Rattle.names.specs.Ebcdic.{ebcdicOf}
 use Rattle.password_des.specs.Des.{SHIFT-RESULT, userID, RDrSEQ}
@@ -25,6 +24,7 @@ use Rattle.print_frame.specs.declared.Operation.the-variants.{Print}
 use Rattle.print_frame.specs.declared.FrameAnswer.{FrameAnswer}
 use Rattle.print_frame.specs.declared.FrameAnswer.the-variants.{Read, Refused}
 use Rattle.print_frame.specs.Frame.{flagsOf, frameOf}
+use Rattle.profile.specs.Table as Table
 
 -- a case, by its subject: an input, and what it gives
 pub data Case : Type 0 where
@@ -41,6 +41,8 @@ pub data Case : Type 0 where
   bothRequestOn : Case
   -- a printer frame
   isFrame : List ℕ → FrameAnswer → Case
+  -- a profile table
+  isTable : List ℕ → Table.Reading → Case
 
 -- each end requests on, and then each receives: the first to request, and to receive, is one end or the other, and each accepts or declines
 unfoldable pub twoRequests : End → End → Bool → Bool → List Call
@@ -66,6 +68,7 @@ Holds (isRead payload reading) = readingOf payload ≡ reading
 Holds (stands bytes front) = eventOf bytes ≡ front
 Holds bothRequestOn = (option : ℕ) → T (carried option) → (x y : End) (a b : Bool) → RestOn (rulesOf option) (twoRequests x y a b)
 Holds (isFrame bytes answer) = frameOf bytes ≡ answer
+Holds (isTable bytes reading) = Table.tableOf bytes ≡ reading
 
 abbrev pub AllHold : List Case → Type 0
 AllHold [] = Unit {0}
@@ -121,4 +124,7 @@ lines =
     -- "a ten-byte frame with LL 04 is read; LL 05 gives 43"
     ∷ isFrame (tenBytes 0x04) printOfNothing
     ∷ isFrame (tenBytes 0x05) (Refused badHeaderLength)
+    -- "table 01 is good and empty; 02 gives 30"
+    ∷ isTable (0x01 ∷ []) (Table.profiles [])
+    ∷ isTable (0x02 ∷ []) (Table.refused badTable)
     ∷ []

@@ -1,3 +1,4 @@
 pub mod Agreement
 pub mod Apart
 pub mod Text
+pub mod Order

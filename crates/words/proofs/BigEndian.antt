@@ -1,14 +1,15 @@
 -- The laws of bytes: how many they are, that they say nothing of what is above them, that they stand for the number they are of, and the
 -- number of one byte more.
 -- Assumes nothing.
-use mathlib.Core.Path.{_≡_, refl, sym, ap, _∙_}
+use mathlib.Core.Path.{_≡_, refl, sym, ap, ap₂, _∙_}
 use mathlib.Core.List.{List, [], _∷_, _++_}
 use Prim.Native.Nat.{ℕ, zero, suc, _+_, _*_, _/_, _%_, _^_, _≤_, _<_}
-use native.Mathlib.Nat.{mod-one, mul-assoc}
+use native.Mathlib.Nat.{mod-one, mod-eq-of-lt, mul-assoc, mul-le-mul-right, add-mul}
 use native.Mathlib.Omega.{arith}
 use lib.Bits.{bitOr, or-shifted}
 use lib.ListN.{length, length-append}
-use lib.Pow.{pow-add, pow-mono, mod-pow-add, field, mod-mod-pow}
+use lib.Pow.{pow-add, pow-mono, mod-pow-add, field, mod-mod-pow, high, low}
+use Rattle.octets.specs.Bytes.{Bytes}
 use Rattle.words.specs.BigEndian.{number, bytes}
 
 pub length-bytes : (k x : ℕ) → length (bytes k x) ≡ k
@@ -64,3 +65,23 @@ joined-byte n b i h k g =
 
 pub joined-lt : (n b i : ℕ) → n < 2 ^ (8 * i) → b < 256 → n * 256 + b < 2 ^ (8 * suc i)
 joined-lt n b i h g = rw (weight i) (omega arith)
+
+-- the number of bytes needs no more than their places
+number-below : (l : List ℕ) → Bytes l → number l < 2 ^ (8 * length l)
+number-below [] g = omega arith
+number-below (b ∷ l) g =
+    let r = number-below l (λ i. g (suc i)) in
+    let more : (b + 1) * 2 ^ (8 * length l) ≤ 256 * 2 ^ (8 * length l) = mul-le-mul-right (2 ^ (8 * length l)) (omega (arith, g 0)) in
+    omega (arith, r, more, weight (length l), add-mul b 1 (2 ^ (8 * length l)))
+
+-- bytes are the bytes of their number
+pub bytes-number : (l : List ℕ) → Bytes l → bytes (length l) (number l) ≡ l
+unfolding bytes
+bytes-number [] g = refl
+bytes-number (b ∷ l) g =
+    let k = length l in
+    let r = number-below l (λ i. g (suc i)) in
+    let first : (b * 2 ^ (8 * k) + number l) / 2 ^ (8 * k) % 256 ≡ b = rw (high b (8 * k) r) (mod-eq-of-lt (g 0)) in
+    let others : bytes k (b * 2 ^ (8 * k) + number l) ≡ l =
+    sym (bytes-mod k (b * 2 ^ (8 * k) + number l)) ∙ ap (bytes k) (low b (8 * k) r) ∙ bytes-number l (λ i. g (suc i)) in
+    ap₂ _∷_ first others

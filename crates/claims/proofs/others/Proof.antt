@@ -7,6 +7,8 @@ use Rattle.env.proofs.Repeats.{is-both, among-is-occurs, repeated-is-twice}
 use Rattle.env.proofs.Boundary.{boundaries-read}
 use Rattle.env_records.proofs.Found.{finds-the-value, absent-where-none}
 use Rattle.names.proofs.Apart.{own-ebcdic, apart}
+use Rattle.names.proofs.Order.{strict-and-total}
+use Rattle.profile.proofs.Members.{lookup-is-membership}
 use Rattle.des.proofs.Parity.{parity-ignored}
 use Rattle.des.proofs.Permutations.{final-undoes-initial}
 use Rattle.telnet_listing.proofs.Sample.{worked}
@@ -28,6 +30,8 @@ returns c = record {
   absentWhereNone = absent-where-none;
   ownEbcdic = own-ebcdic;
   apart = apart;
+  strictAndTotal = strict-and-total;
+  lookupIsMembership = lookup-is-membership;
   parityIgnored = parity-ignored;
   finalUndoesInitial = final-undoes-initial;
   sample = worked;

@@ -9,6 +9,8 @@ use Rattle.env.proofs.Holding.{holds-again}
 use Rattle.env_delivery.proofs.Meaning.{read-is-held, room-suffices}
 use Rattle.env_writer.proofs.Meaning.{wrote-reads-back}
 use Rattle.env_list.proofs.Meaning.{lists-the-variables}
+use Rattle.profile.proofs.Tables.{records-read-back, tables-read-back}
+use Rattle.profile.proofs.Backs.{tables-written-back}
 use Rattle.claims.proofs.round_trips.Statement.{statement}
 use Rattle.claims.proofs.round_trips.Tie as tie
 
@@ -29,6 +31,9 @@ returns c = record {
   wroteReadsBack = wrote-reads-back;
   roomSuffices = room-suffices;
   listsTheVariables = lists-the-variables;
+  recordsReadBack = records-read-back;
+  tablesReadBack = tables-read-back;
+  tablesWrittenBack = tables-written-back;
 }
 
 pub round-trips-spec : {M : Type 1} → statement M

@@ -1,0 +1,4 @@
+pub mod Fronts
+pub mod Tables
+pub mod Backs
+pub mod Members

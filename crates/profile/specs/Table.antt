@@ -1,0 +1,86 @@
+-- The profile table: "one version byte 1, then records", their names strictly ascending, at most 500 (specification, "Profile table" and "Refusal
+-- numbers" 30 to 32: 30 by the first byte alone, then record by record 31 before 32).
+use Prim.Native.Nat.{ℕ, zero, suc, _+_, _^_}
+use mathlib.Core.Bool.{Bool, _&&_}
+use mathlib.Core.List.{List, [], _∷_, _++_}
+use lib.Dec.{eqb, leb, ltb}
+use lib.ListN.{length, getD, take, drop}
+use Rattle.names.specs.Name.{isRaisedName, profileLimit}
+use Rattle.names.specs.Order.{precedes}
+use Rattle.words.specs.BigEndian.{number}
+use Rattle.octets.specs.Choice.{if_then_else_}
+use Rattle.refusal.specs.Refusal.{badTable, badProfile, profilesNotAscending}
+use Rattle.profile.specs.Profile.{Shape, version1, Profile, marksOf, split, bodyLength, recordOf}
+
+-- the version byte of today's table
+abbrev pub version : ℕ
+version = 1
+
+-- a table has at most so many profiles
+abbrev pub profileCount : ℕ
+profileCount = 500
+
+-- at the front of bytes: the flags, n, the name and the tokens of a record
+abbrev pub flagsAt : List ℕ → ℕ
+flagsAt bs = getD bs 2 0
+
+abbrev pub nameLengthAt : List ℕ → ℕ
+nameLengthAt bs = getD bs 3 0
+
+abbrev pub nameAt : List ℕ → List ℕ
+nameAt bs = take (nameLengthAt bs) (drop 4 bs)
+
+-- the profile that they say
+abbrev pub profileAt : Shape → List ℕ → Profile
+profileAt s bs = record {
+  marks = marksOf (s .marks) (flagsAt bs);
+  name = nameAt bs;
+  tokens = split (s .tokens) (drop (4 + nameLengthAt bs) bs);
+}
+
+-- a well-formed record stands at the front: it is not cut, its length is right for its name, no other flag is set, and its name is a raised name
+unfoldable pub isRecord : Shape → List ℕ → Bool
+isRecord s bs =
+    leb (2 + bodyLength s (nameLengthAt bs)) (length bs)
+    && (eqb (number (take 2 bs)) (bodyLength s (nameLengthAt bs))
+    && (ltb (flagsAt bs) (2 ^ s .marks) && isRaisedName profileLimit (nameAt bs)))
+
+-- what a table says: its profiles in their order, or the number of the first refusal
+pub data Reading : Type 0 where
+  profiles : List Profile → Reading
+  refused : ℕ → Reading
+
+-- a profile with what stands behind it
+unfoldable pub addProfile : Profile → Reading → Reading
+addProfile p (profiles ps) = profiles (p ∷ ps)
+addProfile p (refused n) = refused n
+
+-- what is read of bytes that are not at their end
+unfoldable pub unlessEnd : List ℕ → Reading → Reading
+unlessEnd [] reading = profiles []
+unlessEnd (b ∷ bs) reading = reading
+
+-- The records of bytes, where there is room for so many more and their names come behind one. Decides 31 for a record that is not well-formed, then 32 for
+-- one too many and for one whose name does not come behind the name before it. Bytes that are left over are a record that is cut.
+unfoldable pub recordsOf : Shape → ℕ → List ℕ → List ℕ → Reading
+recordsOf s zero before bs = unlessEnd bs (if isRecord s bs then refused profilesNotAscending else refused badProfile)
+recordsOf s (suc room) before bs = unlessEnd bs
+    (if isRecord s bs
+    then if precedes before (nameAt bs)
+    then addProfile (profileAt s bs) (recordsOf s room (nameAt bs) (drop (2 + bodyLength s (nameLengthAt bs)) bs))
+    else refused profilesNotAscending
+    else refused badProfile)
+
+-- A table. Decides 30; no name comes before the first, and the empty text comes before every name.
+unfoldable pub tableOf : List ℕ → Reading
+tableOf [] = refused badTable
+tableOf (v ∷ bs) = if eqb v version then recordsOf version1 profileCount [] bs else refused badTable
+
+-- the records of profiles, one behind the other
+unfoldable pub recordsAll : List Profile → List ℕ
+recordsAll [] = []
+recordsAll (p ∷ ps) = recordOf p ++ recordsAll ps
+
+-- a table of profiles
+abbrev pub tableBytes : List Profile → List ℕ
+tableBytes ps = version ∷ recordsAll ps
