@@ -53,7 +53,7 @@ use Rattle.env_delivery.proofs.Answer.Laws as S′
 use Rattle.octets.specs.Lent.{outcome}
 use Rattle.env_list.specs.Lists.{listing}
 use Rattle.env_list.specs.Reading.{readRecords}
-use Rattle.env_list.proofs.Buffer.{array-type, zeros, Lies, lent-list, filled, lends, back, shares, emptied}
+use Rattle.env_list.proofs.Buffer.{array-type, copies, Lies, lent-list, filled, lends, back, shares, emptied}
 use Rattle.env_list.proofs.Firsts.{begun}
 use Rattle.env_list.proofs.Walks.{local, lets, field-of}
 use Rattle.env_list.proofs.read_numbers as numbers
@@ -208,10 +208,10 @@ module _ {M : Type 1} (𝓤 : URA M) (H : Heap 𝓤) (A : Atoms 𝓤) (W : Given
           move ! (4 ∷ 2 ∷ 3 ∷ 0 ∷ 1 ∷ 7 ∷ 5 ∷ []) $ move ! (7 ∷ []) $ forgo ! $
           -- [token; token; token and true; payload; payload; bytes; records; _15; …; _0; …]: the local is filled, and lies in memory
           owned ! usize (Is usize) (uint-makes 𝓤 H A W w64) 0 (vint w64 0 ∷ []) (refl, lit< tt) $
-          use1 W (‵ (Array usize size .own (replicate size 0) (zeros size ∷ []))) (array-repeat 𝓤 H A W usize (uint-copy 𝓤 H A W w64) size 0 (vint w64 0)) $
-          peeks ! (Array usize size) (Is (Array usize size)) (shows 𝓤 H A (Array usize size)) (replicate size 0) (zeros size ∷ []) (λ is-zeros.
+          use1 W (‵ (Array usize size .own (replicate size 0) (copies size (vint w64 0) ∷ []))) (array-repeat 𝓤 H A W usize (uint-copy 𝓤 H A W w64) size 0 (vint w64 0)) $
+          peeks ! (Array usize size) (Is (Array usize size)) (shows 𝓤 H A (Array usize size)) (replicate size 0) (copies size (vint w64 0) ∷ []) (λ is-zeros.
           lets ! 30 refl (rep ! size (lit ! tt)) (array-lawful 𝓤 H A W usize (uint-lawful 𝓤 H A W w64) size .typed (replicate size 0) _ is-zeros .0) $
-          move ! (30 ∷ 0 ∷ []) $ use2 W (‵ (Lies size (replicate size 0) l₄)) (filled 𝓤 H A W size l₄) $
+          move ! (30 ∷ 0 ∷ []) $ use2 W (‵ (Lies usize size (replicate size 0) l₄)) (filled usize 𝓤 H A W size l₄ tt 0 (vint w64 0)) $
           -- [the numbers; token; token; token and true; payload; payload; bytes; records; _15; …; _5; …; what frees _4; _3; …; _0; …]
           lets ! 26 refl (addr ! (from ! (fld ! refl (hop ! (look-in ! 33 (sub ! 0 refl (whole !))) (stop !))))) (tt, tt) $
           lets ! 24 refl (agg ! (and-then ! (local ! 26 refl) (and-then ! (field-of ! 33 refl (sub ! 1 refl (whole !))) (no-more !))))
@@ -223,7 +223,7 @@ module _ {M : Type 1} (𝓤 : URA M) (H : Heap 𝓤) (A : Atoms 𝓤) (W : Given
           lft-new ! tt (λ α. move ! (1 ∷ []) $
           use1 W (later (some (λ (δ : GName). ‵ (MutSlice (named 2) (α ∷ []) usize .own (lent-list l₄ δ (replicate size 0))
           (sliceVal (l₄, 0) size ∷ [])) ⊛ ‵ (flent (α ∷ []) (Held usize size l₄ 0 δ)))))
-          (lends 𝓤 H A W size l₄ (named 2) (α ∷ []) (replicate size 0) room-320) $ await ! tt $ pick ! (λ δ. split ! $
+          (lends usize 𝓤 H A W size l₄ (named 2) (α ∷ []) (replicate size 0) room-320) $ await ! tt $ pick ! (λ δ. split ! $
           -- [the slice; the lender's part; its token; token; token; token and true; payload; payload; bytes; records; …]
           nothing ! $ move ! (3 ∷ 0 ∷ []) $ join ! $ move ! (4 ∷ 0 ∷ []) $ join ! $ move ! (3 ∷ 0 ∷ []) $ join ! $
           nothing ! $ owned ! usize (Is usize) (uint-makes 𝓤 H A W w64) room _ (refl, room-y .0) $ fjoin ! $ move ! (2 ∷ 0 ∷ []) $ fjoin ! $
@@ -251,7 +251,7 @@ module _ {M : Type 1} (𝓤 : URA M) (H : Heap 𝓤) (A : Atoms 𝓤) (W : Given
           land ! (from ! (stop !)) (init ! 31 refl (EL.lawful S.the-type S′.the-laws 𝓤 H A W tt .typed r _ is .0)) $
           -- the lifetime is ended, and the local is there again
           move ! (1 ∷ []) $ lft-end ! tt $ move ! (0 ∷ 7 ∷ 5 ∷ []) $
-          use3 W (later (‵ (Lies size ns l₄))) (back 𝓤 H A W size l₄ (α ∷ []) δ ns) $ await ! tt $
+          use3 W (later (‵ (Lies usize size ns l₄))) (back usize 𝓤 H A W size l₄ (α ∷ []) δ ns) $ await ! tt $
           -- [the numbers; the answer; true; token; token; the buffer's last list; token and true; payload; records; _15; …]
           lets ! 15 refl (addr ! (from ! (fld ! refl (hop ! (look-in ! 32 (sub ! 0 refl (whole !))) (stop !))))) (tt, tt) $
           lets ! 13 refl (agg ! (and-then ! (local ! 15 refl) (and-then ! (field-of ! 32 refl (sub ! 1 refl (whole !))) (no-more !))))
@@ -274,7 +274,7 @@ module _ {M : Type 1} (𝓤 : URA M) (H : Heap 𝓤) (A : Atoms 𝓤) (W : Given
           let within : n ≤ room = subst (λ (m : ℕ). m ≤ room) (sym total) (told (y .now) refl .0) in
           lft-new ! tt (λ β. move ! (2 ∷ []) $
           use1 W (later (some (λ (ε : GName). ‵ (ShrSlice (named 1) (β ∷ []) usize .own (lent-list l₄ ε ns) (sliceVal (l₄, 0) size ∷ []))
-          ⊛ ‵ (flent (β ∷ []) (Lies size ns l₄))))) (shares 𝓤 H A W size l₄ (named 1) (β ∷ []) ns room-320) $ await ! tt $
+          ⊛ ‵ (flent (β ∷ []) (Lies usize size ns l₄))))) (shares usize 𝓤 H A W size l₄ (named 1) (β ∷ []) ns room-320) $ await ! tt $
           pick ! (λ ε. split ! $
           -- [the slice; the lender's part; its token; the answer; true; token; token; the buffer's last list; token and true; payload; records; …]
           move ! (8 ∷ []) $ split ! $ move ! (4 ∷ 1 ∷ []) $ join ! $ move ! (1 ∷ 0 ∷ []) $ join ! $
@@ -297,7 +297,7 @@ module _ {M : Type 1} (𝓤 : URA M) (H : Heap 𝓤) (A : Atoms 𝓤) (W : Given
           facts ! unit (Is unit) (shows 𝓤 H A unit) o (v ∷ []) (λ is-o.
           land ! (from ! (stop !)) (init ! 17 refl (nothing-lawful 𝓤 H A W .typed o _ is-o .0)) $
           split ! $ move ! (1 ∷ []) $ split ! $ lft-end ! tt $ move ! (0 ∷ 4 ∷ []) $ lent-back ! tt $
-          use1 W (‵ (froom (array-type size) l₄ 0)) (emptied 𝓤 H A W size l₄ ns) $
+          use1 W (‵ (froom (array-type usize size) l₄ 0)) (emptied usize 𝓤 H A W size l₄ ns) $
           -- [room for _4; true; token; the records' last list; the answer; true; token; token; the buffer's last list; payload; _15; …]
           lets ! 39 refl (of-opd ! (local ! 30 refl)) (EL.lawful S.the-type S′.the-laws 𝓤 H A W tt .typed r _ is .0) $
           returns ! (look ! 39 refl) $ forget ! 10 refl $ forget ! 12 refl $ forget ! 14 refl $ forget ! 16 refl $ forget ! 18 refl $

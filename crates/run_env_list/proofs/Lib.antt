@@ -1,0 +1,3 @@
+pub mod Again
+pub mod Prefix
+pub mod Quiet
