@@ -6,7 +6,7 @@ use Prim.Native.Nat.{_*_, _-_}
 use native.Mathlib.Omega.{arith}
 use lib.ListN.{length}
 use borrow.Author.Needs.{needs}
-use Rattle.env.specs.Numbers.{recordWidth}
+use Rattle.env.specs.Numbers.{listLimit, recordWidth}
 use Rattle.env_list.proofs.Joined.{numbered, cut-room, whole-room}
 use Rattle.env_list.proofs.read_numbers.Statement.{statement}
 use Rattle.env_list.proofs.read_numbers.Tie as tie
@@ -36,7 +36,7 @@ returns : tie.Need-returns
 returns c =
     let a = c .before .before .before .before .before .before .before .before .before .before .before .args in
     let e = c .before .before .before .before .read .ensures in
-    let size : length (a .numbers .now) ≡ 320 = omega arith in
+    let size : length (a .numbers .now) ≡ listLimit = omega arith in
     numbered (a .payload .now) (a .bytes .now) _ _ (a .room) _ _ _ (cut-room (a .numbers .now) (recordWidth * a .room - 0) (a .room) size (omega arith) (omega arith)) e
 
 read-requires-2 : tie.Need-read-requires-2
@@ -52,7 +52,7 @@ returns-2 : tie.Need-returns-2
 returns-2 c =
     let a = c .before .before .before .before .before .before .before .before .before .before .before .args in
     let e = c .before .before .before .before .read2 .ensures in
-    let size : length (a .numbers .now) ≡ 320 = omega arith in
+    let size : length (a .numbers .now) ≡ listLimit = omega arith in
     rw append-nil at (numbered (a .payload .now) (a .bytes .now) (a .numbers .now) [] (a .room) _ _ _ (whole-room (a .numbers .now) (a .room) size (omega arith)) e)
 
 pub read-numbers-spec : {M : Type 1} → statement M

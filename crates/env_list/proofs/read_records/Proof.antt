@@ -44,6 +44,7 @@ use denote.Triple.Entry.{onEntry}
 use denote.Triple.Spec.{Meets, tripleOf}
 use denote.Triple.Table.{entered, cited}
 use denote.Triple.Walked.{says, Stays, stay-none-slice, gave-slice, walkOf, Walks, ends-at, walked, goes-none-slice, goes-gave-slice, walk-meets}
+use Rattle.env.specs.Numbers.{listLimit}
 use Rattle.env_list.specs.near.Firsts.{countOf, Numbered}
 use Rattle.env.specs.declared.VariableRecord.{VariableRecord}
 use Rattle.env.proofs.VariableRecord as T
@@ -84,10 +85,10 @@ stayed = (stay-none-slice (0 ∷ []) tt (plain (λ _. u8)) yes, (gave-slice (1 �
 
 -- the local's 320 numbers
 abbrev size : ℕ
-size = 320
+size = listLimit
 
-room-320 : Room usize size
-room-320 = (lit< tt, lit< tt)
+room-size : Room usize size
+room-size = (lit< tt, lit< tt)
 
 -- the contracts that the proof cites
 abbrev ReadNumbers : {M : Type 1} (𝓤 : URA M) (H : Heap 𝓤) (A : Atoms 𝓤) (mem : Memory → SProp 𝓤) (run : Routine → Fun 𝓤) → Contract 𝓤
@@ -217,13 +218,13 @@ module _ {M : Type 1} (𝓤 : URA M) (H : Heap 𝓤) (A : Atoms 𝓤) (W : Given
           lets ! 24 refl (agg ! (and-then ! (local ! 26 refl) (and-then ! (field-of ! 33 refl (sub ! 1 refl (whole !))) (no-more !))))
           (tt, (tt, (record { fits = room-x .0 }, tt))) $
           lets ! 22 refl (addr ! (from ! (stop !))) (tt, tt) $
-          lets ! 20 refl (agg ! (and-then ! (local ! 22 refl) (and-then ! (lit ! tt) (no-more !)))) (tt, (tt, (record { fits = room-320 .0 }, tt))) $
+          lets ! 20 refl (agg ! (and-then ! (local ! 22 refl) (and-then ! (lit ! tt) (no-more !)))) (tt, (tt, (record { fits = room-size .0 }, tt))) $
           lets ! 18 refl (of-opd ! (field-of ! 31 refl (sub ! 1 refl (whole !)))) (tt, record { fits = room-y .0 }) $
           -- `read_numbers`: the local is lent for a lifetime of the call
           lft-new ! tt (λ α. move ! (1 ∷ []) $
           use1 W (later (some (λ (δ : GName). ‵ (MutSlice (named 2) (α ∷ []) usize .own (lent-list l₄ δ (replicate size 0))
           (sliceVal (l₄, 0) size ∷ [])) ⊛ ‵ (flent (α ∷ []) (Held usize size l₄ 0 δ)))))
-          (lends usize 𝓤 H A W size l₄ (named 2) (α ∷ []) (replicate size 0) room-320) $ await ! tt $ pick ! (λ δ. split ! $
+          (lends usize 𝓤 H A W size l₄ (named 2) (α ∷ []) (replicate size 0) room-size) $ await ! tt $ pick ! (λ δ. split ! $
           -- [the slice; the lender's part; its token; token; token; token and true; payload; payload; bytes; records; …]
           nothing ! $ move ! (3 ∷ 0 ∷ []) $ join ! $ move ! (4 ∷ 0 ∷ []) $ join ! $ move ! (3 ∷ 0 ∷ []) $ join ! $
           nothing ! $ owned ! usize (Is usize) (uint-makes 𝓤 H A W w64) room _ (refl, room-y .0) $ fjoin ! $ move ! (2 ∷ 0 ∷ []) $ fjoin ! $
@@ -257,7 +258,7 @@ module _ {M : Type 1} (𝓤 : URA M) (H : Heap 𝓤) (A : Atoms 𝓤) (W : Given
           lets ! 13 refl (agg ! (and-then ! (local ! 15 refl) (and-then ! (field-of ! 32 refl (sub ! 1 refl (whole !))) (no-more !))))
           (tt, (tt, (record { fits = room-y .0 }, tt))) $
           lets ! 11 refl (addr ! (from ! (stop !))) (tt, tt) $
-          lets ! 9 refl (agg ! (and-then ! (local ! 11 refl) (and-then ! (lit ! tt) (no-more !)))) (tt, (tt, (record { fits = room-320 .0 }, tt))) $
+          lets ! 9 refl (agg ! (and-then ! (local ! 11 refl) (and-then ! (lit ! tt) (no-more !)))) (tt, (tt, (record { fits = room-size .0 }, tt))) $
           -- `count_of`: the answer is plain, and is had twice
           move ! (1 ∷ []) $ use1 W (‵ (S.the-row .own r (u ∷ [])) ⊛ ‵ (S.the-row .own r (u ∷ [])))
           (EL.copy S.the-type S′.the-copy 𝓤 H A W .twice r (u ∷ [])) $ split ! $
@@ -274,7 +275,7 @@ module _ {M : Type 1} (𝓤 : URA M) (H : Heap 𝓤) (A : Atoms 𝓤) (W : Given
           let within : n ≤ room = subst (λ (m : ℕ). m ≤ room) (sym total) (told (y .now) refl .0) in
           lft-new ! tt (λ β. move ! (2 ∷ []) $
           use1 W (later (some (λ (ε : GName). ‵ (ShrSlice (named 1) (β ∷ []) usize .own (lent-list l₄ ε ns) (sliceVal (l₄, 0) size ∷ []))
-          ⊛ ‵ (flent (β ∷ []) (Lies usize size ns l₄))))) (shares usize 𝓤 H A W size l₄ (named 1) (β ∷ []) ns room-320) $ await ! tt $
+          ⊛ ‵ (flent (β ∷ []) (Lies usize size ns l₄))))) (shares usize 𝓤 H A W size l₄ (named 1) (β ∷ []) ns room-size) $ await ! tt $
           pick ! (λ ε. split ! $
           -- [the slice; the lender's part; its token; the answer; true; token; token; the buffer's last list; token and true; payload; records; …]
           move ! (8 ∷ []) $ split ! $ move ! (4 ∷ 1 ∷ []) $ join ! $ move ! (1 ∷ 0 ∷ []) $ join ! $
