@@ -16,11 +16,12 @@ fn say_number(word: &[u8], n: usize) {
     io::print_decimal(1, n as u64);
 }
 
+// Bytes between semicolons, of which the text is full at first.
 fn say_bytes(bytes: &[u8]) {
-    let mut text = [0u8; 3300];
-    let n = show::put_hex_spaced(bytes, &mut text, 0);
-    if n <= 3300 {
-        say(&text[0..n]);
+    let mut text = [b';'; 3302];
+    let n = show::put_hex_spaced(bytes, &mut text, 1);
+    if n <= 3301 {
+        say(&text[0..n + 1]);
     }
 }
 
@@ -52,9 +53,7 @@ fn say_answer(answer: Answer) {
 fn read_into(payload: &[u8], bytes: &mut [u8], numbers: &mut [usize]) {
     let answer = env_reader::read(payload, bytes, numbers);
     say_answer(answer);
-    say(b";");
     say_bytes(bytes);
-    say(b";");
     say_numbers(numbers);
     say(b"\n");
 }

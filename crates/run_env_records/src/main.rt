@@ -2,7 +2,7 @@
 // of the name that is looked up, that name, the length of a buffer (two bytes), the buffer, and the numbers of the records over it (two bytes each). A
 // line without a colon is a title.
 //
-// A line of output has the name and the answer: the length and place of the value, and the value. The records are those that the payloads of RFC 4777 are
+// A line of output has the name and the answers of `find`, the length and place of the value, and of `value_of`, the value. The records are those that the payloads of RFC 4777 are
 // read to, and others for the readings of the specification. `stdout` was made by a Python rendering of RFC 1572 as the specification reads it.
 use env_records::ValuePlace;
 
@@ -15,36 +15,30 @@ fn say_number(word: &[u8], n: usize) {
     io::print_decimal(1, n as u64);
 }
 
+// Bytes, and the end of the line, of which the text is full at first.
 fn say_bytes(bytes: &[u8]) {
-    let mut text = [0u8; 330];
+    let mut text = [b'\n'; 331];
     let n = show::put_hex_spaced(bytes, &mut text, 0);
     if n <= 330 {
-        say(&text[0..n]);
+        say(&text[0..n + 1]);
     }
 }
 
-fn say_value(buffer: &[u8], at: usize, n: usize) {
-    if buffer.len() < at {
-        return;
-    }
-    if n <= buffer.len() - at {
-        say_bytes(&buffer[at..at + n]);
-    }
-}
-
-fn say_found(buffer: &[u8], at: usize, n: usize) {
-    say_number(b" ", n);
-    say_number(b" at ", at);
-    say(b";");
-    say_value(buffer, at, n);
-}
-
-fn find_in(kind: usize, name: &[u8], buffer: &[u8], numbers: &[usize]) {
-    match env_records::find(buffer, numbers, kind, name) {
+fn say_place(place: ValuePlace) {
+    match place {
         ValuePlace::Absent => say(b" absent"),
-        ValuePlace::At(at, n) => say_found(buffer, at, n),
+        ValuePlace::At(at, n) => {
+            say_number(b" ", n);
+            say_number(b" at ", at);
+            say(b";");
+        }
     }
-    say(b"\n");
+}
+
+// Where the value stands, and the value.
+fn find_in(kind: usize, name: &[u8], buffer: &[u8], numbers: &[usize]) {
+    say_place(env_records::find(buffer, numbers, kind, name));
+    say_bytes(env_records::value_of(buffer, numbers, kind, name));
 }
 
 // The number that two bytes say.

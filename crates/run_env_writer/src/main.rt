@@ -16,11 +16,12 @@ fn say_number(word: &[u8], n: usize) {
     io::print_decimal(1, n as u64);
 }
 
+// Bytes, and the end of the line, of which the text is full at first.
 fn say_bytes(bytes: &[u8]) {
-    let mut text = [0u8; 3300];
+    let mut text = [b'\n'; 3301];
     let n = show::put_hex_spaced(bytes, &mut text, 0);
     if n <= 3300 {
-        say(&text[0..n]);
+        say(&text[0..n + 1]);
     }
 }
 
@@ -36,7 +37,6 @@ fn write_into(first: u8, buffer: &[u8], numbers: &[usize], out: &mut [u8]) {
     say_answer(answer);
     say(b";");
     say_bytes(out);
-    say(b"\n");
 }
 
 fn write_in(first: u8, buffer: &[u8], numbers: &[usize], room: usize) {
