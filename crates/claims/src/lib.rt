@@ -1,5 +1,8 @@
 // What is proved above single functions, held: each function here does nothing and promises theorems, so that the check of this crate needs the
 // proof of every one. What is claimed is said in `specs/`; start with `Demand3.antt`.
+//
+// Entry points are the functions that a gateway's own code calls. `octets::put`, `octets::put_decimal` and their like, which answer by true or false or by a
+// place, are helpers of the core and none of them.
 ghost use Rattle.claims.specs.Demand3.{Demand3};
 ghost use Rattle.claims.specs.RoundTrips.{RoundTrips};
 ghost use Rattle.claims.specs.Ledger.{LedgerTotal};
