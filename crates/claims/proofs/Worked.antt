@@ -27,7 +27,7 @@ use Rattle.option_rules.proofs.Chosen.{rules-carried}
 use Rattle.option_ends.specs.Ends.{End, near, far, other, at, taken, callResult, sentBy, stepped, changed, move, after, countWhere}
 use Rattle.option_ends.specs.Ends.{isCommand, sends, same}
 use Rattle.print_frame.specs.Frame.{goes, isFlow, directionOf, isReserved, isOperation, operationOf, headerOf, frameOf}
-use Rattle.profile.specs.Table.{profiles, refused, unlessEnd, recordsOf, tableOf}
+use Rattle.profile.specs.Table.{profiles, tableRefused, unlessEnd, profilesFrom, tableOf}
 use Rattle.claims.specs.Worked.{isRead, bothRequestOn, isTable, Holds, AllHold, lines}
 use Rattle.claims.specs.Worked.{twoRequests, sendsAt, RestOn, lettersA}
 
@@ -71,10 +71,10 @@ both-request-on option c x y a b =
     subst⁻¹ (λ (r : Side → Row). RestOn r (twoRequests x y a b)) (rules-carried option c) (computed x y a b)
 
 empty-table : Holds (isTable (0x01 ∷ []) (profiles []))
-unfolding tableOf recordsOf unlessEnd
+unfolding tableOf profilesFrom unlessEnd
 empty-table = refl
 
-other-version : Holds (isTable (0x02 ∷ []) (refused badTable))
+other-version : Holds (isTable (0x02 ∷ []) (tableRefused badTable))
 unfolding tableOf
 other-version = refl
 

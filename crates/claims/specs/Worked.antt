@@ -42,7 +42,7 @@ pub data Case : Type 0 where
   -- a printer frame
   isFrame : List ℕ → FrameAnswer → Case
   -- a profile table
-  isTable : List ℕ → Table.Reading → Case
+  isTable : List ℕ → Table.TableReading → Case
 
 -- each end requests on, and then each receives: the first to request, and to receive, is one end or the other, and each accepts or declines
 unfoldable pub twoRequests : End → End → Bool → Bool → List Call
@@ -126,5 +126,5 @@ lines =
     ∷ isFrame (tenBytes 0x05) (Refused badHeaderLength)
     -- "table 01 is good and empty; 02 gives 30"
     ∷ isTable (0x01 ∷ []) (Table.profiles [])
-    ∷ isTable (0x02 ∷ []) (Table.refused badTable)
+    ∷ isTable (0x02 ∷ []) (Table.tableRefused badTable)
     ∷ []

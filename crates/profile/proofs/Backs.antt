@@ -17,27 +17,27 @@ use Rattle.names.specs.Name.{isRaisedName, profileLimit}
 use Rattle.names.specs.Order.{precedes}
 use Rattle.words.specs.BigEndian.{number, bytes}
 use Rattle.words.proofs.BigEndian.{bytes-number}
-use Rattle.profile.specs.Profile.{Shape, version1, Profile, flagsOf, marksOf, joined, split, total, bodyLength, bodyOf, recordOf}
-use Rattle.profile.specs.Table.{version, profileCount, nameLengthAt, nameAt, profileAt, isRecord}
-use Rattle.profile.specs.Table.{Reading, profiles, refused, addProfile, unlessEnd, recordsOf, tableOf, recordsAll, tableBytes}
+use Rattle.profile.specs.Profile.{Shape, version1, Profile, flagsByte, marksOf, tokenBytes, tokensOf, sumOf, bodyLength, bodyOf, recordBytes}
+use Rattle.profile.specs.Table.{tableVersion, profileCount, nameLengthAt, nameAt, profileAt, isRecord}
+use Rattle.profile.specs.Table.{TableReading, profiles, tableRefused, addProfile, unlessEnd, profilesFrom, tableOf, recordsBytes, tableBytes}
 use Rattle.profile.specs.Theorems.{WellFormed, Ascending, TablesWrittenBack}
 use Rattle.profile.proofs.Fronts.{two-more, length-marks, length-joined, four-on, two-and-two}
 
 bit-of : (f : ℕ) → (if eqb (f % 2) 1 then 1 else 0) ≡ f % 2
 bit-of f = choice (λ n. n ≡ f % 2) (eqb (f % 2) 1) (λ e. sym (eqb-true (f % 2) 1 e)) (λ e. omega (arith, eqb-false (f % 2) 1 e))
 
-flags-marks : (k f : ℕ) → f < 2 ^ k → flagsOf (marksOf k f) ≡ f
-unfolding flagsOf marksOf
+flags-marks : (k f : ℕ) → f < 2 ^ k → flagsByte (marksOf k f) ≡ f
+unfolding flagsByte marksOf
 flags-marks zero f h = omega arith
 flags-marks (suc k) f h = omega (arith, flags-marks k (f / 2) (omega (arith, h, two-more k)), bit-of f)
 
-joined-split : (ns l : List ℕ) → joined (split ns l) ≡ take (total ns) l
-unfolding joined split total
+joined-split : (ns l : List ℕ) → tokenBytes (tokensOf ns l) ≡ take (sumOf ns) l
+unfolding tokenBytes tokensOf sumOf
 joined-split [] l = refl
-joined-split (n ∷ ns) l = rw (joined-split ns (drop n l)) (sym (take-add n (total ns) l))
+joined-split (n ∷ ns) l = rw (joined-split ns (drop n l)) (sym (take-add n (sumOf ns) l))
 
-lengths-split : (ns l : List ℕ) → total ns ≤ length l → map length (split ns l) ≡ ns
-unfolding split total
+lengths-split : (ns l : List ℕ) → sumOf ns ≤ length l → map length (tokensOf ns l) ≡ ns
+unfolding tokensOf sumOf
 lengths-split [] l h = refl
 lengths-split (n ∷ ns) l h =
     let here : length (take n l) ≡ n = rw length-take (omega arith) in
@@ -51,7 +51,7 @@ pair-bytes a b g h (suc (suc i)) = omega arith
 -- a record at the front: the profile that it says is well-formed, and its record is what stands there
 record Backs (s : Shape) (bs : List ℕ) : Type 0 where
   good : WellFormed s (profileAt s bs)
-  whole : recordOf (profileAt s bs) ++ drop (2 + bodyLength s (nameLengthAt bs)) bs ≡ bs
+  whole : recordBytes (profileAt s bs) ++ drop (2 + bodyLength s (nameLengthAt bs)) bs ≡ bs
 
 four-there : (s : Shape) (bs : List ℕ) → T (isRecord s bs) → 4 ≤ length bs
 unfolding isRecord
@@ -60,7 +60,7 @@ four-there s bs t =
     omega (arith, leb→le (2 + bodyLength s (nameLengthAt bs)) (length bs) (y .0))
 
 backs : (s : Shape) (bs : List ℕ) → Bytes bs → T (isRecord s bs) → Backs s bs
-unfolding isRecord recordOf
+unfolding isRecord recordBytes
 backs s [] g t = absurd (omega (arith, four-there s [] t))
 backs s (a ∷ []) g t = absurd (omega (arith, four-there s (a ∷ []) t))
 backs s (a ∷ b ∷ []) g t = absurd (omega (arith, four-there s (a ∷ b ∷ []) t))
@@ -75,40 +75,40 @@ backs s (a ∷ b ∷ f ∷ n ∷ r) g t =
     let ts = s .tokens in
     let rest = drop n r in
     let name : length (take n r) ≡ n = rw length-take (omega arith) in
-    let room : total ts ≤ length rest = rw length-drop (omega arith) in
+    let room : sumOf ts ≤ length rest = rw length-drop (omega arith) in
     let lengths = lengths-split ts rest room in
     let flags = flags-marks (s .marks) f (ltb→lt f (2 ^ s .marks) (u .0)) in
-    let size : length (take n r ++ joined (split ts rest)) ≡ n + total ts =
-    omega (arith, length-append (take n r) (joined (split ts rest)), length-joined (split ts rest), ap total lengths, name) in
+    let size : length (take n r ++ tokenBytes (tokensOf ts rest)) ≡ n + sumOf ts =
+    omega (arith, length-append (take n r) (tokenBytes (tokensOf ts rest)), length-joined (tokensOf ts rest), ap sumOf lengths, name) in
     let says : length (bodyOf (profileAt s bs)) ≡ number (a ∷ b ∷ []) = rw (four-on n) (omega (arith, size, said)) in
     let two : bytes 2 (number (a ∷ b ∷ [])) ≡ a ∷ b ∷ [] = bytes-number (a ∷ b ∷ []) (pair-bytes a b (g 0) (g 1)) in
-    let all : (take n r ++ joined (split ts rest)) ++ drop (n + total ts) r ≡ r =
-    rw (joined-split ts rest, ← take-add n (total ts) r) (take-append-drop (n + total ts) r) in
+    let all : (take n r ++ tokenBytes (tokensOf ts rest)) ++ drop (n + sumOf ts) r ≡ r =
+    rw (joined-split ts rest, ← take-add n (sumOf ts) r) (take-append-drop (n + sumOf ts) r) in
     record {
       good = record { marks = length-marks (s .marks) f; name = u .1; tokens = rw (four-on n) lengths };
-      whole = rw (says, two, flags, name, four-on n, two-and-two (n + total ts)) (ap (λ l. a ∷ b ∷ f ∷ n ∷ l) all);
+      whole = rw (says, two, flags, name, four-on n, two-and-two (n + sumOf ts)) (ap (λ l. a ∷ b ∷ f ∷ n ∷ l) all);
     }
 
 -- a reading of bytes that means what stands there
-abbrev Means : Shape → ℕ → List ℕ → List ℕ → Reading → Type 0
-Means s room before bs (profiles ps) = (recordsAll ps ≡ bs) × (Ascending s before ps × (length ps ≤ room))
-Means s room before bs (refused n) = Unit {0}
+abbrev Means : Shape → ℕ → List ℕ → List ℕ → TableReading → Type 0
+Means s room before bs (profiles ps) = (recordsBytes ps ≡ bs) × (Ascending s before ps × (length ps ≤ room))
+Means s room before bs (tableRefused n) = Unit {0}
 
 bytes-from : (k : ℕ) (bs : List ℕ) → Bytes bs → Bytes (drop k bs)
 bytes-from k bs g i = rw getD-drop (g (k + i))
 
-add-means : (s : Shape) (room : ℕ) (before bs : List ℕ) (r : Reading) → Bytes bs → T (isRecord s bs) → T (precedes before (nameAt bs))
+add-means : (s : Shape) (room : ℕ) (before bs : List ℕ) (r : TableReading) → Bytes bs → T (isRecord s bs) → T (precedes before (nameAt bs))
     → Means s room (nameAt bs) (drop (2 + bodyLength s (nameLengthAt bs)) bs) r → Means s (suc room) before bs (addProfile (profileAt s bs) r)
-unfolding addProfile recordsAll
+unfolding addProfile recordsBytes
 add-means s room before bs (profiles ps) g t o m =
     let b = backs s bs g t in (
       rw (m .0) (b .whole),
       ((b .good, (o, m .1 .0)), omega (arith, m .1 .1)),
     )
-add-means s room before bs (refused n) g t o m = tt
+add-means s room before bs (tableRefused n) g t o m = tt
 
-records-mean : (s : Shape) (room : ℕ) (before bs : List ℕ) → Bytes bs → Means s room before bs (recordsOf s room before bs)
-unfolding recordsOf recordsAll unlessEnd
+records-mean : (s : Shape) (room : ℕ) (before bs : List ℕ) → Bytes bs → Means s room before bs (profilesFrom s room before bs)
+unfolding profilesFrom recordsBytes unlessEnd
 records-mean s zero before [] g = (refl, (tt, omega arith))
 records-mean s zero before (b ∷ bs) g = choice (Means s zero before (b ∷ bs)) (isRecord s (b ∷ bs)) (λ _. tt) (λ _. tt)
 records-mean s (suc room) before [] g = (refl, (tt, omega arith))
@@ -118,26 +118,26 @@ records-mean s (suc room) before (b ∷ bs) g =
     let more = records-mean s room (nameAt l) rest (bytes-from (2 + bodyLength s (nameLengthAt l)) l g) in
     choice (Means s (suc room) before l) (isRecord s l)
     (λ t. choice (Means s (suc room) before l) (precedes before (nameAt l))
-    (λ o. add-means s room before l (recordsOf s room (nameAt l) rest) g (passes (isRecord s l) t) (passes (precedes before (nameAt l)) o) more)
+    (λ o. add-means s room before l (profilesFrom s room (nameAt l) rest) g (passes (isRecord s l) t) (passes (precedes before (nameAt l)) o) more)
     (λ _. tt))
     (λ _. tt)
 
 -- a reading of a table that means what stands there
-abbrev TableMeans : List ℕ → Reading → Type 0
+abbrev TableMeans : List ℕ → TableReading → Type 0
 TableMeans bs (profiles ps) = (tableBytes ps ≡ bs) × (Ascending version1 [] ps × (length ps ≤ profileCount))
-TableMeans bs (refused n) = Unit {0}
+TableMeans bs (tableRefused n) = Unit {0}
 
-with-version : (bs : List ℕ) (r : Reading) → Means version1 profileCount [] bs r → TableMeans (version ∷ bs) r
-with-version bs (profiles ps) m = (ap (λ l. version ∷ l) (m .0), m .1)
-with-version bs (refused n) m = tt
+with-version : (bs : List ℕ) (r : TableReading) → Means version1 profileCount [] bs r → TableMeans (tableVersion ∷ bs) r
+with-version bs (profiles ps) m = (ap (λ l. tableVersion ∷ l) (m .0), m .1)
+with-version bs (tableRefused n) m = tt
 
 table-means : (bs : List ℕ) → Bytes bs → TableMeans bs (tableOf bs)
 unfolding tableOf
 table-means [] g = tt
 table-means (v ∷ bs) g =
-    choice (TableMeans (v ∷ bs)) (eqb v version)
-    (λ e. rw (eqb-true v version e)
-    (with-version bs (recordsOf version1 profileCount [] bs) (records-mean version1 profileCount [] bs (λ i. g (suc i)))))
+    choice (TableMeans (v ∷ bs)) (eqb v tableVersion)
+    (λ e. rw (eqb-true v tableVersion e)
+    (with-version bs (profilesFrom version1 profileCount [] bs) (records-mean version1 profileCount [] bs (λ i. g (suc i)))))
     (λ _. tt)
 
 pub tables-written-back : TablesWrittenBack

@@ -11,14 +11,14 @@ use Rattle.octets.proofs.Equality.{same-sound, same-refl}
 use Rattle.names.specs.Order.{precedes}
 use Rattle.names.proofs.Order.{strict-and-total}
 use Rattle.profile.specs.Profile.{Shape, Profile}
-use Rattle.profile.specs.Theorems.{Ascending, present, lookup, Occurs, LookupIsMembership}
+use Rattle.profile.specs.Theorems.{Ascending, oneProfile, profileNamed, Occurs, LookupIsMembership}
 
 -- what is found is there, and has the name
-found : (name : List ℕ) (p : Profile) (ps : List Profile) → lookup name ps ≡ present p → Occurs p ps × (name ≡ p .name)
-unfolding lookup
+found : (name : List ℕ) (p : Profile) (ps : List Profile) → profileNamed name ps ≡ oneProfile p → Occurs p ps × (name ≡ p .name)
+unfolding profileNamed
 found name p [] = λ e. let z : _≡_ {A = ℕ} 0 1 = cc in absurd (omega arith)
 found name p (q ∷ ps) =
-    choice (λ l. l ≡ present p → Occurs p (q ∷ ps) × (name ≡ p .name)) (same name (q .name))
+    choice (λ l. l ≡ oneProfile p → Occurs p (q ∷ ps) × (name ≡ p .name)) (same name (q .name))
     (λ t e. let i : q ≡ p = cc in (
       record { before = []; behind = ps; there = ap (λ r. r ∷ ps) i },
       same-sound name (q .name) (passes (same name (q .name)) t) ∙ ap (λ r. r .name) i,
@@ -37,11 +37,11 @@ ahead s before (q ∷ l) p behind asc =
 
 -- what is there is found
 there : (s : Shape) (before : List ℕ) (l : List Profile) (p : Profile) (behind : List Profile)
-    → Ascending s before (l ++ p ∷ behind) → lookup (p .name) (l ++ p ∷ behind) ≡ present p
-unfolding lookup
+    → Ascending s before (l ++ p ∷ behind) → profileNamed (p .name) (l ++ p ∷ behind) ≡ oneProfile p
+unfolding profileNamed
 there s before [] p behind asc = rw (is-true (same (p .name) (p .name)) (same-refl (p .name)))
 there s before (q ∷ l) p behind asc =
-    choice (λ r. r ≡ present p) (same (p .name) (q .name))
+    choice (λ r. r ≡ oneProfile p) (same (p .name) (q .name))
     (λ t.
     let e = same-sound (p .name) (q .name) (passes (same (p .name) (q .name)) t) in
     let itself : T (precedes (q .name) (q .name)) = subst (λ n. T (precedes (q .name) n)) e (ahead s (q .name) l p behind (asc .1 .1)) in

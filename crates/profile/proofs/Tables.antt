@@ -9,27 +9,27 @@ use lib.Dec.{T}
 use denote.Floats.{is-true}
 use Rattle.names.specs.Name.{profileLimit}
 use Rattle.names.specs.Order.{precedes}
-use Rattle.profile.specs.Profile.{Shape, version1, Profile, bodyLength, total, recordOf}
-use Rattle.profile.specs.Table.{profileCount, nameAt, isRecord, Reading, profiles, addProfile, unlessEnd, recordsOf, tableOf, recordsAll, tableBytes}
+use Rattle.profile.specs.Profile.{Shape, version1, Profile, bodyLength, sumOf, recordBytes}
+use Rattle.profile.specs.Table.{profileCount, nameAt, isRecord, TableReading, profiles, addProfile, unlessEnd, profilesFrom, tableOf, recordsBytes, tableBytes}
 use Rattle.profile.specs.Theorems.{Ascending, RecordsReadBack, TablesReadBack}
 use Rattle.profile.proofs.Fronts.{Fronts, fronts}
 
-not-end : (bs : List ℕ) (r : Reading) → 0 < length bs → unlessEnd bs r ≡ r
+not-end : (bs : List ℕ) (r : TableReading) → 0 < length bs → unlessEnd bs r ≡ r
 unfolding unlessEnd
 not-end [] r h = absurd (omega arith)
 not-end (b ∷ bs) r h = refl
 
 pub records-read-back : RecordsReadBack
-unfolding recordsOf recordsAll addProfile unlessEnd
+unfolding profilesFrom recordsBytes addProfile unlessEnd
 records-read-back s short zero before [] asc few = refl
 records-read-back s short (suc room) before [] asc few = refl
 records-read-back s short zero before (p ∷ ps) asc few = absurd (omega arith)
 records-read-back s short (suc room) before (p ∷ ps) (w, (b, asc)) few =
-    let f = fronts s p (recordsAll ps) w short in
+    let f = fronts s p (recordsBytes ps) w short in
     let more = records-read-back s short room (p .name) ps asc (omega arith) in
-    not-end (recordOf p ++ recordsAll ps) _ (f .some)
-    ∙ rw (is-true (isRecord s (recordOf p ++ recordsAll ps)) (f .is), f .says, f .behind, f .named, is-true (precedes before (p .name)) b, more)
+    not-end (recordBytes p ++ recordsBytes ps) _ (f .some)
+    ∙ rw (is-true (isRecord s (recordBytes p ++ recordsBytes ps)) (f .is), f .says, f .behind, f .named, is-true (precedes before (p .name)) b, more)
 
 pub tables-read-back : TablesReadBack
-unfolding tableOf total
+unfolding tableOf sumOf
 tables-read-back ps asc few = records-read-back version1 (omega arith) profileCount [] ps asc (omega (arith, few))

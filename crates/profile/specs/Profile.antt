@@ -38,9 +38,9 @@ abbrev pub shaToken : Profile → List ℕ
 shaToken p = getD (p .tokens) 1 []
 
 -- marks as a byte, the first mark in the lowest bit
-unfoldable pub flagsOf : List Bool → ℕ
-flagsOf [] = 0
-flagsOf (m ∷ ms) = (if m then 1 else 0) + 2 * flagsOf ms
+unfoldable pub flagsByte : List Bool → ℕ
+flagsByte [] = 0
+flagsByte (m ∷ ms) = (if m then 1 else 0) + 2 * flagsByte ms
 
 -- the k lowest bits of a byte as marks
 unfoldable pub marksOf : ℕ → ℕ → List Bool
@@ -48,28 +48,28 @@ marksOf zero b = []
 marksOf (suc k) b = eqb (b % 2) 1 ∷ marksOf k (b / 2)
 
 -- tokens one behind the other
-unfoldable pub joined : List (List ℕ) → List ℕ
-joined [] = []
-joined (t ∷ ts) = t ++ joined ts
+unfoldable pub tokenBytes : List (List ℕ) → List ℕ
+tokenBytes [] = []
+tokenBytes (t ∷ ts) = t ++ tokenBytes ts
 
 -- bytes as tokens of given lengths
-unfoldable pub split : List ℕ → List ℕ → List (List ℕ)
-split [] bs = []
-split (n ∷ ns) bs = take n bs ∷ split ns (drop n bs)
+unfoldable pub tokensOf : List ℕ → List ℕ → List (List ℕ)
+tokensOf [] bs = []
+tokensOf (n ∷ ns) bs = take n bs ∷ tokensOf ns (drop n bs)
 
 -- the sum of lengths
-unfoldable pub total : List ℕ → ℕ
-total [] = 0
-total (n ∷ ns) = n + total ns
+unfoldable pub sumOf : List ℕ → ℕ
+sumOf [] = 0
+sumOf (n ∷ ns) = n + sumOf ns
 
 -- the length that a record of a shape says, with a name of n bytes: "30 + n" in version 1
 abbrev pub bodyLength : Shape → ℕ → ℕ
-bodyLength s n = 2 + (n + total (s .tokens))
+bodyLength s n = 2 + (n + sumOf (s .tokens))
 
 -- what stands behind the length: flags, n, name, tokens
 abbrev pub bodyOf : Profile → List ℕ
-bodyOf p = flagsOf (p .marks) ∷ length (p .name) ∷ (p .name ++ joined (p .tokens))
+bodyOf p = flagsByte (p .marks) ∷ length (p .name) ∷ (p .name ++ tokenBytes (p .tokens))
 
 -- the record of a profile
-unfoldable pub recordOf : Profile → List ℕ
-recordOf p = bytes 2 (length (bodyOf p)) ++ bodyOf p
+unfoldable pub recordBytes : Profile → List ℕ
+recordBytes p = bytes 2 (length (bodyOf p)) ++ bodyOf p

@@ -10,11 +10,11 @@ use Rattle.names.specs.Order.{precedes}
 use Rattle.words.specs.BigEndian.{number}
 use Rattle.octets.specs.Choice.{if_then_else_}
 use Rattle.refusal.specs.Refusal.{badTable, badProfile, profilesNotAscending}
-use Rattle.profile.specs.Profile.{Shape, version1, Profile, marksOf, split, bodyLength, recordOf}
+use Rattle.profile.specs.Profile.{Shape, version1, Profile, marksOf, tokensOf, bodyLength, recordBytes}
 
 -- the version byte of today's table
-abbrev pub version : ℕ
-version = 1
+abbrev pub tableVersion : ℕ
+tableVersion = 1
 
 -- a table has at most so many profiles
 abbrev pub profileCount : ℕ
@@ -35,7 +35,7 @@ abbrev pub profileAt : Shape → List ℕ → Profile
 profileAt s bs = record {
   marks = marksOf (s .marks) (flagsAt bs);
   name = nameAt bs;
-  tokens = split (s .tokens) (drop (4 + nameLengthAt bs) bs);
+  tokens = tokensOf (s .tokens) (drop (4 + nameLengthAt bs) bs);
 }
 
 -- a well-formed record stands at the front: it is not cut, its length is right for its name, no other flag is set, and its name is a raised name
@@ -46,41 +46,41 @@ isRecord s bs =
     && (ltb (flagsAt bs) (2 ^ s .marks) && isRaisedName profileLimit (nameAt bs)))
 
 -- what a table says: its profiles in their order, or the number of the first refusal
-pub data Reading : Type 0 where
-  profiles : List Profile → Reading
-  refused : ℕ → Reading
+pub data TableReading : Type 0 where
+  profiles : List Profile → TableReading
+  tableRefused : ℕ → TableReading
 
 -- a profile with what stands behind it
-unfoldable pub addProfile : Profile → Reading → Reading
+unfoldable pub addProfile : Profile → TableReading → TableReading
 addProfile p (profiles ps) = profiles (p ∷ ps)
-addProfile p (refused n) = refused n
+addProfile p (tableRefused n) = tableRefused n
 
 -- what is read of bytes that are not at their end
-unfoldable pub unlessEnd : List ℕ → Reading → Reading
+unfoldable pub unlessEnd : List ℕ → TableReading → TableReading
 unlessEnd [] reading = profiles []
 unlessEnd (b ∷ bs) reading = reading
 
 -- The records of bytes, where there is room for so many more and their names come behind one. Decides 31 for a record that is not well-formed, then 32 for
 -- one too many and for one whose name does not come behind the name before it. Bytes that are left over are a record that is cut.
-unfoldable pub recordsOf : Shape → ℕ → List ℕ → List ℕ → Reading
-recordsOf s zero before bs = unlessEnd bs (if isRecord s bs then refused profilesNotAscending else refused badProfile)
-recordsOf s (suc room) before bs = unlessEnd bs
+unfoldable pub profilesFrom : Shape → ℕ → List ℕ → List ℕ → TableReading
+profilesFrom s zero before bs = unlessEnd bs (if isRecord s bs then tableRefused profilesNotAscending else tableRefused badProfile)
+profilesFrom s (suc room) before bs = unlessEnd bs
     (if isRecord s bs
     then if precedes before (nameAt bs)
-    then addProfile (profileAt s bs) (recordsOf s room (nameAt bs) (drop (2 + bodyLength s (nameLengthAt bs)) bs))
-    else refused profilesNotAscending
-    else refused badProfile)
+    then addProfile (profileAt s bs) (profilesFrom s room (nameAt bs) (drop (2 + bodyLength s (nameLengthAt bs)) bs))
+    else tableRefused profilesNotAscending
+    else tableRefused badProfile)
 
 -- A table. Decides 30; no name comes before the first, and the empty text comes before every name.
-unfoldable pub tableOf : List ℕ → Reading
-tableOf [] = refused badTable
-tableOf (v ∷ bs) = if eqb v version then recordsOf version1 profileCount [] bs else refused badTable
+unfoldable pub tableOf : List ℕ → TableReading
+tableOf [] = tableRefused badTable
+tableOf (v ∷ bs) = if eqb v tableVersion then profilesFrom version1 profileCount [] bs else tableRefused badTable
 
 -- the records of profiles, one behind the other
-unfoldable pub recordsAll : List Profile → List ℕ
-recordsAll [] = []
-recordsAll (p ∷ ps) = recordOf p ++ recordsAll ps
+unfoldable pub recordsBytes : List Profile → List ℕ
+recordsBytes [] = []
+recordsBytes (p ∷ ps) = recordBytes p ++ recordsBytes ps
 
 -- a table of profiles
 abbrev pub tableBytes : List Profile → List ℕ
-tableBytes ps = version ∷ recordsAll ps
+tableBytes ps = tableVersion ∷ recordsBytes ps

@@ -12,7 +12,7 @@ use Rattle.octets.specs.Same.{same}
 use Rattle.names.specs.Name.{isRaisedName, profileLimit}
 use Rattle.names.specs.Order.{precedes}
 use Rattle.profile.specs.Profile.{Shape, version1, Profile, bodyLength}
-use Rattle.profile.specs.Table.{profileCount, Reading, profiles, recordsOf, tableOf, recordsAll, tableBytes}
+use Rattle.profile.specs.Table.{profileCount, TableReading, profiles, profilesFrom, tableOf, recordsBytes, tableBytes}
 
 -- a profile that a record of a shape can say
 pub record WellFormed (s : Shape) (p : Profile) : Type 0 where
@@ -30,7 +30,7 @@ Ascending s before (p ∷ ps) = WellFormed s p × (T (precedes before (p .name))
 abbrev pub RecordsReadBack : Type 0
 RecordsReadBack =
     (s : Shape) → bodyLength s profileLimit < 2 ^ 16 → (room : ℕ) (before : List ℕ) (ps : List Profile)
-    → Ascending s before ps → length ps ≤ room → recordsOf s room before (recordsAll ps) ≡ profiles ps
+    → Ascending s before ps → length ps ≤ room → profilesFrom s room before (recordsBytes ps) ≡ profiles ps
 
 -- And so does a table of version 1.
 abbrev pub TablesReadBack : Type 0
@@ -43,14 +43,14 @@ TablesWrittenBack =
     → (tableBytes ps ≡ bs) × (Ascending version1 [] ps × (length ps ≤ profileCount))
 
 -- a look-up by name
-pub data Lookup : Type 0 where
-  absent : Lookup
-  present : Profile → Lookup
+pub data ProfileLookup : Type 0 where
+  noProfile : ProfileLookup
+  oneProfile : Profile → ProfileLookup
 
 -- the first profile of a name
-unfoldable pub lookup : List ℕ → List Profile → Lookup
-lookup name [] = absent
-lookup name (p ∷ ps) = if same name (p .name) then present p else lookup name ps
+unfoldable pub profileNamed : List ℕ → List Profile → ProfileLookup
+profileNamed name [] = noProfile
+profileNamed name (p ∷ ps) = if same name (p .name) then oneProfile p else profileNamed name ps
 
 -- a profile, somewhere in a list
 pub record Occurs (p : Profile) (ps : List Profile) : Type 0 where
@@ -62,4 +62,4 @@ pub record Occurs (p : Profile) (ps : List Profile) : Type 0 where
 abbrev pub LookupIsMembership : Type 0
 LookupIsMembership =
     (s : Shape) (before : List ℕ) (ps : List Profile) → Ascending s before ps
-    → (name : List ℕ) (p : Profile) → (lookup name ps ≡ present p) ↔ (Occurs p ps × (name ≡ p .name))
+    → (name : List ℕ) (p : Profile) → (profileNamed name ps ≡ oneProfile p) ↔ (Occurs p ps × (name ≡ p .name))
