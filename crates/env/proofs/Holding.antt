@@ -12,7 +12,8 @@ use Rattle.octets.specs.Lent.{overwrite}
 use Rattle.octets.proofs.Overwrite.{take-overwrite, length-overwrite}
 use Rattle.env.specs.Variable.{Variable, isKind}
 use Rattle.env.specs.Write.{kindsGood}
-use Rattle.env.specs.Numbers.{recordWidth, recordsOf, packed, recorded, part, held, fits, allPlaced, placed}
+use Rattle.env.specs.Numbers.{recordWidth, recordsOf, packed, recorded, held, fits, allPlaced, placed}
+use Rattle.octets.specs.Part.{part}
 use Rattle.env.specs.Theorems.{HoldsAgain}
 
 pub length-recorded : (at : ℕ) (vs : List Variable) → length (recorded at vs) ≡ recordWidth * length vs

@@ -5,6 +5,7 @@ use mathlib.Core.Bool.{Bool, true, _&&_}
 use mathlib.Core.List.{List, [], _∷_, _++_, map}
 use lib.Dec.{leb}
 use lib.ListN.{length, take, drop}
+use Rattle.octets.specs.Part.{part}
 use Rattle.env.specs.declared.VariableRecord.{VariableRecord}
 use Rattle.env.specs.Variable.{Variable, variable, isKind, variableLimit}
 
@@ -44,10 +45,6 @@ recorded at [] = []
 recorded at (v ∷ vs) =
     numbersOf (recordOf (v .kind) at (length (v .name)) (at + length (v .name)) (length (v .value)))
     ++ recorded (at + length (v .name) + length (v .value)) vs
-
--- so many bytes from a place on, or what there is of them
-unfoldable pub part : List ℕ → ℕ → ℕ → List ℕ
-part bytes at n = take n (drop at bytes)
 
 -- the variable of a record over a buffer
 abbrev pub variableOf : List ℕ → VariableRecord → Variable

@@ -12,7 +12,8 @@ use Rattle.env_delivery.specs.declared.Answer.the-variants.{Read, Refuse
 use Rattle.env_delivery.specs.Promise.{delivery, delivered, handOver, deliverRead}
 use Rattle.env.specs.Variable.{Variable, repeated}
 use Rattle.env.specs.Read.{variables, says, notRead, distinct}
-use Rattle.env.specs.Numbers.{recordWidth, packed, recorded, part}
+use Rattle.env.specs.Numbers.{recordWidth, packed, recorded}
+use Rattle.octets.specs.Part.{part}
 use Rattle.env.proofs.Holding.{held-recorded, length-recorded}
 use Rattle.refusal.specs.Refusal.{noRoom, repeatedVariable}
 use Rattle.octets.specs.Choice.{if_then_else_}

@@ -15,7 +15,8 @@ use Rattle.octets.proofs.Overwrite.{take-overwrite-front}
 use Rattle.telnet.specs.Event.{payloadLimit}
 use Rattle.env.specs.Variable.{Variable}
 use Rattle.env.specs.Read.{Reading, says, notRead, readingOf}
-use Rattle.env.specs.Numbers.{recordWidth, listLimit, packed, recorded, part, held}
+use Rattle.env.specs.Numbers.{recordWidth, listLimit, packed, recorded, held}
+use Rattle.octets.specs.Part.{part}
 use Rattle.env.proofs.Holding.{held-recorded, length-recorded}
 use Rattle.env.proofs.Short.{Fitting, reading-fitting}
 use Rattle.env.proofs.Sound.{Reads, reads}

@@ -10,7 +10,8 @@ use Rattle.env_records.specs.Records.{placeIn, placeOf}
 use Rattle.env_records.specs.Theorems.{valueAt, FindsTheValue, AbsentWhereNone}
 use Rattle.env.specs.Variable.{Lookup, present, is, among, lookup, valueOr}
 use Rattle.env.specs.declared.VariableRecord.{VariableRecord}
-use Rattle.env.specs.Numbers.{part, recordsOf, variableOf, held}
+use Rattle.env.specs.Numbers.{recordsOf, variableOf, held}
+use Rattle.octets.specs.Part.{part}
 use Rattle.octets.specs.Choice.{if_then_else_}
 
 value-of : (bytes : List ℕ) (a n : ℕ) (test : Bool) (behind : ValuePlace) (rest : Lookup) → valueAt bytes behind ≡ rest

@@ -1,6 +1,5 @@
 pub mod Fives
 pub mod Found
 pub mod Held
-pub mod Parts
 pub mod Steps
 pub mod Stored

@@ -7,7 +7,8 @@ use Rattle.env_records.specs.declared.ValuePlace.{ValuePlace}
 use Rattle.env_records.specs.declared.ValuePlace.the-variants.{Absent, At}
 use Rattle.env_records.specs.Records.{placeOf}
 use Rattle.env.specs.Variable.{Lookup, absent, present, among, lookup}
-use Rattle.env.specs.Numbers.{part, held}
+use Rattle.env.specs.Numbers.{held}
+use Rattle.octets.specs.Part.{part}
 
 -- the value at a place of a buffer
 unfoldable pub valueAt : List ℕ → ValuePlace → Lookup

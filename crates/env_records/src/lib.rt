@@ -1,12 +1,12 @@
 // The list of variable records over a slice of numbers, so many for each record.
 ghost use mathlib.Core.Path.{_≡_};
 ghost use mathlib.Core.List.{[]};
-ghost use Prim.Native.Nat.{_+_, _-_, _*_, _/_, _<_, min};
+ghost use Prim.Native.Nat.{_+_, _-_, _*_, _/_, _<_};
 ghost use lib.Dec.{leb};
 ghost use lib.ListN.{length, drop};
 ghost use Rattle.env_records.specs.Records.{recordAt, placeOf};
 ghost use Rattle.env.specs.Variable.{isFirst, isKind, is, among, repeated, lookup, valueOr};
-ghost use Rattle.env.specs.Numbers.{recordWidth, numbersOf, part, variableOf, held};
+ghost use Rattle.env.specs.Numbers.{recordWidth, numbersOf, variableOf, held};
 ghost use Rattle.octets.specs.Lent.{outcome};
 ghost use Rattle.octets.specs.Promise.{putAt};
 use env::RECORD_WIDTH;
@@ -85,33 +85,6 @@ pub fn fits(length: usize, at: usize, n: usize) -> bool
     !octets::no_room(n, at, length)
 }
 
-// A number, but no more than a limit.
-fn clipped(n: usize, limit: usize) -> usize
-    ensures { λ r. ⌜ r ≡ min n limit ⌝ }
-{
-    if limit < n {
-        return limit;
-    }
-    n
-}
-
-// Where `n` bytes from `at` on end in a buffer that may have fewer of them.
-fn part_end(length: usize, at: usize, n: usize) -> usize
-    ensures { λ r. ⌜ r ≡ min at length + min n (length - min at length) ⌝ }
-{
-    let start = clipped(at, length);
-    start + clipped(n, length - start)
-}
-
-// So many bytes from a place on, or what there is of them.
-pub fn text(bytes: &[u8], at: usize, n: usize) -> &[u8]
-    ensures { λ r. ⌜ now r ≡ part (now (bytes .entry)) at n ⌝ }
-{
-    let start = clipped(at, bytes.len());
-    let end = part_end(bytes.len(), at, n);
-    &bytes[start..end]
-}
-
 // Whether a record is of a kind and name.
 fn is_of(bytes: &[u8], v: VariableRecord, kind: usize, name: &[u8]) -> bool
     ensures { λ r. ⌜ r ≡ is kind (now (name .entry)) (variableOf (now (bytes .entry)) v) ⌝ }
@@ -119,7 +92,7 @@ fn is_of(bytes: &[u8], v: VariableRecord, kind: usize, name: &[u8]) -> bool
     if kind != v.kind {
         return false;
     }
-    octets::same(name, text(bytes, v.name_at, v.name_length))
+    octets::same(name, octets_part::part(bytes, v.name_at, v.name_length))
 }
 
 // Where the value stands of the first record of a kind and name.
@@ -142,8 +115,8 @@ pub fn value_of<'a>(bytes: &'a [u8], numbers: &[usize], kind: usize, name: &[u8]
     ensures { λ r. ⌜ now r ≡ valueOr [] (lookup kind (now (name .entry)) (held (now (bytes .entry)) (now (numbers .entry)))) ⌝ }
 {
     match find(bytes, numbers, kind, name) {
-        ValuePlace::Absent => text(bytes, 0, 0),
-        ValuePlace::At(at, n) => text(bytes, at, n),
+        ValuePlace::Absent => octets_part::part(bytes, 0, 0),
+        ValuePlace::At(at, n) => octets_part::part(bytes, at, n),
     }
 }
 
@@ -156,7 +129,7 @@ fn occurs_behind(bytes: &[u8], numbers: &[usize], i: usize) -> bool
         ⌝ }
 {
     let v = record_at(numbers, i);
-    let name = text(bytes, v.name_at, v.name_length);
+    let name = octets_part::part(bytes, v.name_at, v.name_length);
     let next = RECORD_WIDTH * (i + 1);
     let length = numbers.len();
     let place = find(bytes, &numbers[next..length], v.kind, name);

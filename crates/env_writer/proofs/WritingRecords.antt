@@ -10,7 +10,8 @@ use lib.ListN.{length, take, drop, length-append, length-take, length-drop}
 use borrow.Author.Tests.{eq-eqb, ne-eqb, eqb-true, leb-true}
 use Rattle.env.specs.Variable.{VAR, ESC, USERVAR, isKind}
 use Rattle.env.specs.Write.{escaped, writtenVariable, writtenVariables, isEmpty, nameless}
-use Rattle.env.specs.Numbers.{recordWidth, variableOf, part, held, fits, isPlaced, placed}
+use Rattle.env.specs.Numbers.{recordWidth, variableOf, held, fits, isPlaced, placed}
+use Rattle.octets.specs.Part.{part}
 use Rattle.env.specs.declared.VariableRecord.{VariableRecord}
 use Rattle.env_records.specs.Records.{recordAt}
 use Rattle.env_records.proofs.Steps.{held-step, held-end, placed-step}

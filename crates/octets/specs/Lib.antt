@@ -5,3 +5,4 @@ pub mod Decimal
 pub mod Lent
 pub mod Promise
 pub mod Same
+pub mod Part

@@ -12,8 +12,8 @@ returns : tie.Need-returns
 unfolding is
 returns c = let s = c .before .before .before .before .args in rw (ne-eqb (s .kind) (s .v .kind) (λ e. omega arith))
 
-text-requires : tie.Need-text-requires
-text-requires c κs = search needs
+part-requires : tie.Need-part-requires
+part-requires c κs = search needs
 
 same-requires : tie.Need-same-requires
 same-requires c κs = search needs
@@ -22,7 +22,7 @@ returns-2 : tie.Need-returns-2
 unfolding is
 returns-2 c =
     let s = c .before .before .before .before .before .before .args in
-    rw (eq-eqb (s .kind) (s .v .kind) (omega arith)) (c .same .ensures ∙ ap (same (s .name .now)) (c .before .text .ensures))
+    rw (eq-eqb (s .kind) (s .v .kind) (omega arith)) (c .same .ensures ∙ ap (same (s .name .now)) (c .before .part .ensures))
 
 pub is-of-spec : {M : Type 1} → statement M
-is-of-spec = tie.close (tie.spec returns text-requires same-requires returns-2)
+is-of-spec = tie.close (tie.spec returns part-requires same-requires returns-2)

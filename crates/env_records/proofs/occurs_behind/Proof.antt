@@ -6,7 +6,8 @@ use borrow.Author.Needs.{needs}
 use lib.ListN.{length, drop, length-drop}
 use lib.Seq.{take-all}
 use Rattle.env.specs.Variable.{among}
-use Rattle.env.specs.Numbers.{recordWidth, variableOf, part, held}
+use Rattle.env.specs.Numbers.{recordWidth, variableOf, held}
+use Rattle.octets.specs.Part.{part}
 use Rattle.env_records.specs.Records.{recordAt, placeOf}
 use Rattle.env_records.proofs.Found.{there, there-among}
 use Rattle.env_records.proofs.occurs_behind.Statement.{statement}
@@ -15,8 +16,8 @@ use Rattle.env_records.proofs.occurs_behind.Tie as tie
 record-at-requires : tie.Need-record-at-requires
 record-at-requires c κs = search needs
 
-text-requires : tie.Need-text-requires
-text-requires c κs = search needs
+part-requires : tie.Need-part-requires
+part-requires c κs = search needs
 
 add-next : tie.Need-add-next
 add-next c = search needs
@@ -56,7 +57,7 @@ behind c =
     let r = v .result in
     let rest = drop (recordWidth * (s .i + 1)) (s .numbers .now) in
     let text = part bytes (r .«name_at») (r .«name_length») in
-    let name = c .before .before .text .ensures in
+    let name = c .before .before .part .ensures in
     let all = take-all (length (s .numbers .now) - recordWidth * (s .i + 1)) rest (rw length-drop (omega arith)) in
     let place : c .find .result ≡ placeOf (r .kind) text bytes rest = rw (all, name) at (c .find .ensures) in
     rw (← v .ensures) (ap there place ∙ there-among (r .kind) text bytes rest)
@@ -74,7 +75,7 @@ occurs-behind-spec =
     tie.close
     (tie.spec
     record-at-requires
-    text-requires
+    part-requires
     add-next
     mul-next
     mul-find

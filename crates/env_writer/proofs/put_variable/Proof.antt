@@ -7,7 +7,7 @@ use lib.ListN.{length, set, length-set}
 use borrow.Author.Needs.{needs}
 use Rattle.env.specs.Variable.{VALUE, ESC}
 use Rattle.env.specs.Write.{escaped, writtenVariable}
-use Rattle.env.specs.Numbers.{part}
+use Rattle.octets.specs.Part.{part}
 use Rattle.octets.specs.Lent.{overwrite}
 use Rattle.octets_marked.proofs.Marked.{put-whole}
 use Rattle.env_writer.proofs.Writing.{stored-variable}

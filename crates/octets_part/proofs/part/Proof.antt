@@ -1,8 +1,8 @@
--- `env_records::text` meets its contract. Assumes nothing.
+-- `octets_part::part` meets its contract. Assumes nothing.
 use borrow.Author.Needs.{needs}
-use Rattle.env_records.proofs.Parts.{part-lent}
-use Rattle.env_records.proofs.text.Statement.{statement}
-use Rattle.env_records.proofs.text.Tie as tie
+use Rattle.octets_part.proofs.Parts.{part-lent}
+use Rattle.octets_part.proofs.part.Statement.{statement}
+use Rattle.octets_part.proofs.part.Tie as tie
 
 clipped-requires : tie.Need-clipped-requires
 clipped-requires c κs = search needs
@@ -24,5 +24,5 @@ returns c =
     let s = c .before .before .before .before .args in
     part-lent (s .bytes .now) (s .at) (s .n) _ _ (c .before .before .clipped .ensures) (c .before .part-end .ensures)
 
-pub text-spec : {M : Type 1} → statement M
-text-spec = tie.close (tie.spec clipped-requires part-end-requires sub-result part-result-start part-result-end returns)
+pub part-spec : {M : Type 1} → statement M
+part-spec = tie.close (tie.spec clipped-requires part-end-requires sub-result part-result-start part-result-end returns)

@@ -6,7 +6,7 @@ use Prim.Native.Nat.{ℕ, _+_, _-_, min}
 use native.Mathlib.Omega.{arith}
 use lib.ListN.{length, take, drop, length-drop, drop-of-length-le}
 use lib.Seq.{take-all, take-length, drop-length}
-use Rattle.env.specs.Numbers.{part}
+use Rattle.octets.specs.Part.{part}
 use Rattle.octets.proofs.Order.{below-or-above}
 
 take-min : (n : ℕ) (l : List ℕ) → take (min n (length l)) l ≡ take n l
