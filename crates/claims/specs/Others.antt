@@ -9,6 +9,7 @@ use Rattle.env.specs.Boundaries.{boundaries, AllRead}
 use Rattle.env_records.specs.Theorems.{FindsTheValue, AbsentWhereNone}
 use Rattle.names.specs.Theorems.{OwnEbcdic, Apart, StrictAndTotal}
 use Rattle.profile.specs.Theorems.{LookupIsMembership}
+use Rattle.profile_table.specs.Theorems.{FoundIsNamed}
 use Rattle.des.specs.Theorems.{ParityIgnored, FinalUndoesInitial}
 use Rattle.telnet_listing.specs.Sample.{Sample}
 
@@ -38,6 +39,8 @@ pub record Others : Type 0 where
   -- The order of names is strict and total; so in a table no name is there twice, and a look-up is membership.
   pub strictAndTotal : StrictAndTotal
   pub lookupIsMembership : LookupIsMembership
+  -- What the look-up answers is the profile of that name, by the place where its record stands.
+  pub foundIsNamed : FoundIsNamed
   -- "The parity bits of a key are ignored."
   pub parityIgnored : ParityIgnored
   -- FIPS 46: the final permutation is the inverse of the initial one.

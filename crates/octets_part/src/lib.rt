@@ -1,6 +1,7 @@
-// A part of lent bytes, for every place and length. What is right is said in the crate `octets`, in `specs/Part.antt`.
+// A part of lent bytes, and one of them, for every place and length. What is right is said in the crate `octets`, in `specs/Part.antt`.
 ghost use mathlib.Core.Path.{_≡_};
 ghost use Prim.Native.Nat.{_+_, _-_, min};
+ghost use lib.ListN.{getD};
 ghost use Rattle.octets.specs.Part as octets;
 
 // A number, but no more than a limit.
@@ -28,4 +29,14 @@ pub fn part(bytes: &[u8], at: usize, n: usize) -> &[u8]
     let start = clipped(at, bytes.len());
     let end = part_end(bytes.len(), at, n);
     &bytes[start..end]
+}
+
+// The byte at a place, or 0 behind the end.
+pub fn byte_at(bytes: &[u8], i: usize) -> u8
+    ensures { λ r. ⌜ r ≡ getD (now (bytes .entry)) i 0 ⌝ }
+{
+    if i < bytes.len() {
+        return bytes[i];
+    }
+    0
 }

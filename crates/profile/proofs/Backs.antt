@@ -31,7 +31,7 @@ unfolding flagsByte marksOf
 flags-marks zero f h = omega arith
 flags-marks (suc k) f h = omega (arith, flags-marks k (f / 2) (omega (arith, h, two-more k)), bit-of f)
 
-joined-split : (ns l : List ℕ) → tokenBytes (tokensOf ns l) ≡ take (sumOf ns) l
+pub joined-split : (ns l : List ℕ) → tokenBytes (tokensOf ns l) ≡ take (sumOf ns) l
 unfolding tokenBytes tokensOf sumOf
 joined-split [] l = refl
 joined-split (n ∷ ns) l = rw (joined-split ns (drop n l)) (sym (take-add n (sumOf ns) l))
@@ -123,7 +123,7 @@ records-mean s (suc room) before (b ∷ bs) g =
     (λ _. tt)
 
 -- a reading of a table that means what stands there
-abbrev TableMeans : List ℕ → TableReading → Type 0
+abbrev pub TableMeans : List ℕ → TableReading → Type 0
 TableMeans bs (profiles ps) = (tableBytes ps ≡ bs) × (Ascending version1 [] ps × (length ps ≤ profileCount))
 TableMeans bs (tableRefused n) = Unit {0}
 
@@ -131,7 +131,7 @@ with-version : (bs : List ℕ) (r : TableReading) → Means version1 profileCoun
 with-version bs (profiles ps) m = (ap (λ l. tableVersion ∷ l) (m .0), m .1)
 with-version bs (tableRefused n) m = tt
 
-table-means : (bs : List ℕ) → Bytes bs → TableMeans bs (tableOf bs)
+pub table-means : (bs : List ℕ) → Bytes bs → TableMeans bs (tableOf bs)
 unfolding tableOf
 table-means [] g = tt
 table-means (v ∷ bs) g =

@@ -1,4 +1,6 @@
 pub mod Fronts
+pub mod Steps
 pub mod Tables
 pub mod Backs
+pub mod Sizes
 pub mod Members

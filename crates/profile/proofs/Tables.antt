@@ -13,11 +13,7 @@ use Rattle.profile.specs.Profile.{Shape, version1, Profile, bodyLength, 
 use Rattle.profile.specs.Table.{profileCount, nameAt, isRecord, TableReading, profiles, addProfile, unlessEnd, profilesFrom, tableOf, recordsBytes, tableBytes}
 use Rattle.profile.specs.Theorems.{Ascending, RecordsReadBack, TablesReadBack}
 use Rattle.profile.proofs.Fronts.{Fronts, fronts}
-
-not-end : (bs : List ℕ) (r : TableReading) → 0 < length bs → unlessEnd bs r ≡ r
-unfolding unlessEnd
-not-end [] r h = absurd (omega arith)
-not-end (b ∷ bs) r h = refl
+use Rattle.profile.proofs.Steps.{not-end}
 
 pub records-read-back : RecordsReadBack
 unfolding profilesFrom recordsBytes addProfile unlessEnd

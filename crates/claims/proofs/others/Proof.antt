@@ -9,6 +9,7 @@ use Rattle.env_records.proofs.Found.{finds-the-value, absent-where-none}
 use Rattle.names.proofs.Apart.{own-ebcdic, apart}
 use Rattle.names.proofs.Order.{strict-and-total}
 use Rattle.profile.proofs.Members.{lookup-is-membership}
+use Rattle.profile_table.proofs.Meaning.{found-is-named}
 use Rattle.des.proofs.Parity.{parity-ignored}
 use Rattle.des.proofs.Permutations.{final-undoes-initial}
 use Rattle.telnet_listing.proofs.Sample.{worked}
@@ -32,6 +33,7 @@ returns c = record {
   apart = apart;
   strictAndTotal = strict-and-total;
   lookupIsMembership = lookup-is-membership;
+  foundIsNamed = found-is-named;
   parityIgnored = parity-ignored;
   finalUndoesInitial = final-undoes-initial;
   sample = worked;

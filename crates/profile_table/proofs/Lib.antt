@@ -1,0 +1,4 @@
+pub mod Records
+pub mod Stepping
+pub mod Whole
+pub mod Meaning

@@ -1,0 +1,30 @@
+// The tokens of a profile, lent out of the table where its record stands.
+ghost use mathlib.Core.Path.{_≡_};
+ghost use Prim.Native.Nat.{_+_, _<_};
+ghost use lib.ListN.{take, drop};
+ghost use Rattle.profile.specs.Profile.{version1, desToken, shaToken};
+ghost use Rattle.profile.specs.Table.{nameLengthAt, profileAt};
+
+// Bytes of the tokens of the record at a place of a table, from one of them on.
+fn token_part(table: &[u8], at: usize, from: usize, count: usize) -> &[u8]
+    requires { ⌜ from < 256 ⌝ }
+    ensures { λ r. ⌜ now r ≡ take count (drop from (drop (4 + nameLengthAt (drop at (now (table .entry)))) (drop at (now (table .entry))))) ⌝ }
+{
+    let record = octets_part::part(table, at, table.len());
+    let n = octets_part::byte_at(record, 3) as usize;
+    octets_part::part(record, 4 + n + from, count)
+}
+
+// The DES token of the profile whose record stands at a place that `profile_table::find` gave; at any other place, what stands there as if it were one.
+pub fn des_token(table: &[u8], at: usize) -> &[u8]
+    ensures { λ r. ⌜ now r ≡ desToken (profileAt version1 (drop at (now (table .entry)))) ⌝ }
+{
+    token_part(table, at, 0, 8)
+}
+
+// And its SHA-1 token.
+pub fn sha_token(table: &[u8], at: usize) -> &[u8]
+    ensures { λ r. ⌜ now r ≡ shaToken (profileAt version1 (drop at (now (table .entry)))) ⌝ }
+{
+    token_part(table, at, 8, 20)
+}
