@@ -1,4 +1,5 @@
 pub mod Agreement
 pub mod Apart
 pub mod Text
+pub mod Held
 pub mod Order
