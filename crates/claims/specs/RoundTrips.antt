@@ -5,6 +5,7 @@ use Rattle.env_delivery.specs.Theorems.{ReadIsHeld, RoomSuffices}
 use Rattle.env_writer.specs.Theorems.{WroteReadsBack}
 use Rattle.env_list.specs.Theorems.{ListsTheVariables}
 use Rattle.profile.specs.Theorems.{RecordsReadBack, TablesReadBack, TablesWrittenBack}
+use Rattle.profile_maker.specs.Theorems.{MadeRecordsAreGood, MadeTablesRead}
 use Rattle.print_ledger.specs.Theorems.{PrintCompleteReadsBack, PrintCompleteIsAFrame}
 
 pub record RoundTrips : Type 0 where
@@ -43,3 +44,6 @@ pub record RoundTrips : Type 0 where
   pub tablesReadBack : TablesReadBack
   -- and what is read without refusal, written, gives the bytes.
   pub tablesWrittenBack : TablesWrittenBack
+  -- What the token maker wrote is the record of a well-formed profile; and a table of made records in ascending order reads as the profiles that were made.
+  pub madeRecordsAreGood : MadeRecordsAreGood
+  pub madeTablesRead : MadeTablesRead

@@ -6,3 +6,4 @@ pub mod Promise
 pub mod Equality
 pub mod Front
 pub mod Comparison
+pub mod Pieces

@@ -7,8 +7,8 @@ use native.Mathlib.Omega.{arith}
 use lib.ListN.{length, take, replicate, length-append}
 use Rattle.octets.specs.Lent.{outcome, overwrite}
 use Rattle.octets.specs.Promise.{putAt}
-use Rattle.octets.proofs.Overwrite.{overwrite-whole, overwrite-nil, overwrite-append, length-overwrite, take-overwrite-front}
-use Rattle.octets.proofs.Promise.{put-fits}
+use Rattle.octets.proofs.Overwrite.{overwrite-whole, overwrite-nil, take-overwrite-front}
+use Rattle.octets.proofs.Pieces.{behind, put-behind}
 use Rattle.names.specs.Name.{raised, isName, profileLimit}
 use Rattle.names.specs.Padding.{filled}
 use Rattle.password_sha.specs.Sha.{unicode, uppercase-unicode-userid}
@@ -17,19 +17,6 @@ use Rattle.password_sha.proofs.Unicode.{length-unicode}
 
 pub length-userid : (t : List ℕ) → isName profileLimit t ≡ true → length (uppercase-unicode-userid t) ≡ 20
 length-userid t good = length-unicode (filled 0x20 10 (raised t)) ∙ rw (length-blanked t good)
-
-module _ (l : List ℕ) (x y : List ℕ) (at : ℕ) (seam : at ≡ length x) (room : at + length y ≤ length l) where
-  -- a piece behind those that are there
-  pub behind : overwrite (overwrite l 0 x) at y ≡ overwrite l 0 (x ++ y)
-  behind =
-      let z : at ≡ 0 + length x = omega arith in
-      rw z (overwrite-append l 0 x y (omega arith))
-
-  -- and one that was put there
-  pub put-behind : (b m : List ℕ) (r : Bool) → b ≡ overwrite l 0 x → outcome r m ≡ putAt y b at → m ≡ overwrite l 0 (x ++ y)
-  put-behind b m r e h =
-      let n : length b ≡ length l = ap length e ∙ length-overwrite l 0 x (omega arith) in
-      ap (λ o. o .lent) (h ∙ put-fits y b at (omega arith)) ∙ ap (λ k. overwrite k at y) e ∙ behind
 
 -- the two pieces of a token
 pub token-text : (t p : List ℕ) → isName profileLimit t ≡ true → length p ≤ 128

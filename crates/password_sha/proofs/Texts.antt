@@ -3,19 +3,18 @@ use mathlib.Core.Path.{_≡_, ap, _∙_}
 use mathlib.Core.Bool.{true, _&&_, and-eq-true-iff}
 use mathlib.Core.List.{List}
 use Prim.Native.Nat.{ℕ, _-_, _≤_}
-use native.Mathlib.Nat.{sub-zero}
 use native.Mathlib.Omega.{arith}
 use borrow.Author.Tests.{leb-true}
 use lib.Dec.{leb}
-use lib.ListN.{length, take, replicate, length-map}
-use lib.Seq.{take-append-seam}
+use lib.ListN.{length, take, replicate}
 use Rattle.octets.specs.Lent.{outcome}
 use Rattle.octets.specs.Promise.{putAt}
 use Rattle.octets.proofs.Promise.{put-fits}
-use Rattle.names.specs.Name.{raisedByte, raised, isName, name, named, profileLimit}
+use Rattle.names.specs.Name.{raised, isName, named, profileLimit}
 use Rattle.names.specs.declared.Name.{Name}
 use Rattle.names.specs.Padding.{filled}
-use Rattle.names.proofs.Text.{length-filled, name-length, over-pads}
+use Rattle.names.proofs.Text.{length-filled, over-pads}
+use Rattle.names.proofs.Held.{raised-within, held-bytes}
 use Rattle.password_sha.specs.Sha.{isPassword}
 
 pub password-length : (t : List ℕ) → isPassword t ≡ true → length t ≤ 128
@@ -25,24 +24,11 @@ password-length t e =
     leb-true n 128 (and-eq-true-iff (leb 1 n) (leb n 128) .0 (and-eq-true-iff (leb 1 n && leb n 128) _ .0 e .0) .1)
 
 module _ (t : List ℕ) (good : isName profileLimit t ≡ true) where
-  few : length (raised t) ≤ 10
-  few = rw (length-map t raisedByte) (name-length profileLimit t good)
-
   pub length-blanked : length (filled 0x20 10 (raised t)) ≡ 10
-  length-blanked = omega (arith, length-filled 0x20 10 (raised t), few)
+  length-blanked = omega (arith, length-filled 0x20 10 (raised t), raised-within t good)
 
-  module _ (n : Name) (h : n ≡ named profileLimit t) where
-    is-held : n ≡ name (raised t)
-    unfolding named
-    is-held = h ∙ rw good
-
-    pub held-within : n .length ≤ length (n .bytes)
-    held-within = rw is-held (omega (arith, length-filled 0 10 (raised t)))
-
-    held-bytes : take (n .length - 0) (n .bytes) ≡ raised t
-    unfolding filled
-    held-bytes = rw (is-held, sub-zero) (take-append-seam (raised t) (replicate (10 - length (raised t)) 0))
-
-    pub over-blanks : putAt (take (n .length - 0) (n .bytes)) (replicate 10 0x20) 0 ≡ outcome true (filled 0x20 10 (raised t))
-    over-blanks =
-        rw held-bytes (put-fits (raised t) (replicate 10 0x20) 0 (omega (arith, few)) ∙ ap (outcome true) (over-pads 0x20 10 (raised t)))
+  pub over-blanks : (n : Name) → n ≡ named profileLimit t
+      → putAt (take (n .length - 0) (n .bytes)) (replicate 10 0x20) 0 ≡ outcome true (filled 0x20 10 (raised t))
+  over-blanks n h =
+      rw (held-bytes t good n h)
+      (put-fits (raised t) (replicate 10 0x20) 0 (omega (arith, raised-within t good)) ∙ ap (outcome true) (over-pads 0x20 10 (raised t)))

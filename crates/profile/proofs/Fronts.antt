@@ -80,7 +80,7 @@ pub record Fronts (s : Shape) (p : Profile) (rest : List ℕ) : Type 0 where
   pub behind : drop (2 + bodyLength s (nameLengthAt (recordBytes p ++ rest))) (recordBytes p ++ rest) ≡ rest
   pub some : 0 < length (recordBytes p ++ rest)
 
-length-body : (s : Shape) (p : Profile) → WellFormed s p → length (bodyOf p) ≡ bodyLength s (length (p .name))
+pub length-body : (s : Shape) (p : Profile) → WellFormed s p → length (bodyOf p) ≡ bodyLength s (length (p .name))
 length-body s p w = omega (arith, length-append (p .name) (tokenBytes (p .tokens)), length-joined (p .tokens), ap sumOf (w .tokens))
 
 module _ (s : Shape) (p : Profile) (rest : List ℕ) (w : WellFormed s p) (short : bodyLength s profileLimit < 2 ^ 16) where

@@ -1,4 +1,4 @@
--- `claims::round_trips` promises what `telnet`, `env`, `env_list` and `print_ledger` prove. Assumes nothing.
+-- `claims::round_trips` promises what `telnet`, `env`, `env_list`, `profile`, `profile_maker` and `print_ledger` prove. Assumes nothing.
 use Rattle.telnet.proofs.RoundTrip.{reads-back, writes-back}
 use Rattle.telnet.proofs.Writable.{read-is-writable}
 use Rattle.telnet.proofs.Unroll.{unrolled}
@@ -11,6 +11,7 @@ use Rattle.env_writer.proofs.Meaning.{wrote-reads-back}
 use Rattle.env_list.proofs.Meaning.{lists-the-variables}
 use Rattle.profile.proofs.Tables.{records-read-back, tables-read-back}
 use Rattle.profile.proofs.Backs.{tables-written-back}
+use Rattle.profile_maker.proofs.Goodness.{made-records-are-good, made-tables-read}
 use Rattle.claims.proofs.round_trips.Statement.{statement}
 use Rattle.claims.proofs.round_trips.Tie as tie
 
@@ -34,6 +35,8 @@ returns c = record {
   recordsReadBack = records-read-back;
   tablesReadBack = tables-read-back;
   tablesWrittenBack = tables-written-back;
+  madeRecordsAreGood = made-records-are-good;
+  madeTablesRead = made-tables-read;
 }
 
 pub round-trips-spec : {M : Type 1} → statement M

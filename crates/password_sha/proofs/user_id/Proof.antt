@@ -1,6 +1,7 @@
 -- `password_sha::user_id` meets its contract: the raised name over ten blanks. Assumes nothing.
 use mathlib.Core.Path.{ap, _∙_}
-use Rattle.password_sha.proofs.Texts.{held-within, over-blanks}
+use Rattle.names.proofs.Held.{held-within}
+use Rattle.password_sha.proofs.Texts.{over-blanks}
 use borrow.Author.Needs.{needs}
 use Rattle.password_sha.proofs.user_id.Statement.{statement}
 use Rattle.password_sha.proofs.user_id.Tie as tie

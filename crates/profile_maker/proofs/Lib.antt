@@ -1,0 +1,4 @@
+pub mod Parts
+pub mod Formed
+pub mod Answers
+pub mod Goodness

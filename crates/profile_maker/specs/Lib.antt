@@ -1,0 +1,4 @@
+pub mod Made
+pub mod Promise
+pub mod Theorems
+pub mod near
