@@ -1,0 +1,85 @@
+// Whether what a client offers is what a stored token gives. No token is handed out: a refused hash is twenty zeros, and zeros may be stored. What is right
+// is said in `specs/Gives.antt`.
+ghost use mathlib.Core.Path.{_≡_};
+ghost use Rattle.password_check.specs.Gives.{givesClear, areSeeds, givesDes, givesSha};
+use password_des::Block;
+
+// Whether a text is a password whose SHA-1 token, with a name, is the stored one.
+pub fn gives_clear(name: &[u8], password: &[u8], stored: &[u8]) -> bool
+    ensures { λ r. ⌜ r ≡ givesClear (now (name .entry)) (now (password .entry)) (now (stored .entry)) ⌝ }
+{
+    let hash = password_sha::sha_token(name, password);
+    if hash.refusal != 0 {
+        return false;
+    }
+    let token = hash.bytes;
+    octets::same(&token, stored)
+}
+
+// Whether two texts have the length of a seed.
+fn are_seeds(server_seed: &[u8], client_seed: &[u8]) -> bool
+    ensures { λ r. ⌜ r ≡ areSeeds (now («server_seed» .entry)) (now («client_seed» .entry)) ⌝ }
+{
+    if server_seed.len() != 8 {
+        return false;
+    }
+    client_seed.len() == 8
+}
+
+// Whether the offered bytes are the substitute by DES of the stored token, under two seeds.
+pub fn gives_des(
+    stored: &[u8],
+    name: &[u8],
+    server_seed: &[u8],
+    client_seed: &[u8],
+    offered: &[u8],
+) -> bool
+    ensures { λ r. ⌜
+        r ≡ givesDes (now (stored .entry)) (now (name .entry)) (now («server_seed» .entry)) (now («client_seed» .entry)) (now (offered .entry))
+        ⌝ }
+{
+    if stored.len() != 8 {
+        return false;
+    }
+    if !are_seeds(server_seed, client_seed) {
+        return false;
+    }
+    let token = words::word_64(stored);
+    let server = words::word_64(server_seed);
+    let client = words::word_64(client_seed);
+    let answer = password_des::des_substitute(token, name, server, client);
+    match answer {
+        Block::Refused(_) => false,
+        Block::Value(block) => octets::same(&words::bytes_64(block), offered),
+    }
+}
+
+// Whether the offered bytes are the substitute by SHA-1 of the stored token, under two seeds.
+pub fn gives_sha(
+    stored: &[u8],
+    name: &[u8],
+    server_seed: &[u8],
+    client_seed: &[u8],
+    offered: &[u8],
+) -> bool
+    ensures { λ r. ⌜
+        r ≡ givesSha (now (stored .entry)) (now (name .entry)) (now («server_seed» .entry)) (now («client_seed» .entry)) (now (offered .entry))
+        ⌝ }
+{
+    if stored.len() != 20 {
+        return false;
+    }
+    if !are_seeds(server_seed, client_seed) {
+        return false;
+    }
+    let mut token = [0u8; 20];
+    octets::put(stored, &mut token, 0);
+    let server = words::word_64(server_seed);
+    let client = words::word_64(client_seed);
+    let answer = password_sha::sha_substitute(token, name, server, client);
+    if answer.refusal != 0 {
+        return false;
+    }
+    let substitute = answer.bytes;
+    octets::same(&substitute, offered)
+}

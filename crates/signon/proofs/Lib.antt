@@ -1,0 +1,4 @@
+pub mod Lookups
+pub mod Rules
+pub mod Sentences
+pub mod Verdicts

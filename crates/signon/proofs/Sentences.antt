@@ -1,0 +1,161 @@
+-- The verdict's sentence holds, and no two sentences hold at once. Assumes nothing.
+use mathlib.Core.Path.{_≡_, refl, sym, ap, subst, _∙_}
+use mathlib.Core.Bool.{Bool, true, false, not, _&&_}
+use mathlib.Core.List.{List, [], _∷_, _++_}
+use mathlib.Core.Logic.{_⊎_, inl, inr, ⊎-elim}
+use Prim.Native.Nat.{ℕ}
+use native.Mathlib.Omega.{arith}
+use lib.Dec.{T}
+use lib.ListN.{length}
+use denote.Floats.{passes, is-true}
+use borrow.Author.Tests.{not-true, not-false}
+use Rattle.octets.specs.Choice.{if_then_else_}
+use Rattle.octets.proofs.Choice.{choice}
+use Rattle.env.specs.Variable.{Variable, VAR, USERVAR, repeated, Lookup, absent, present, lookup, valueOr}
+use Rattle.names.specs.Name.{raised, isName, isRaisedName, profileLimit}
+use Rattle.names.proofs.Held.{raised-is-raised}
+use Rattle.profile.specs.Profile.{Shape, version1, Profile, enabled}
+use Rattle.profile.specs.Theorems.{WellFormed, Ascending, Occurs, ProfileLookup, noProfile, oneProfile, profileNamed}
+use Rattle.profile.proofs.Members.{lookup-is-membership}
+use Rattle.password_check.specs.Gives.{seedLength}
+use Rattle.signon.specs.declared.Verdict.{Verdict}
+use Rattle.signon.specs.declared.Verdict.the-variants.{Panel, NotKnown, Disabled, Failed, Grant}
+use Rattle.signon.specs.Attempt.{USER, IBMRSEED, IBMSUBSPW, Attempt, attempt, isPresent, ofProfile, clearPassword, desSubstitute, shaSubstitute}
+use Rattle.signon.specs.Verdict.{Rule, _gives_, firstOf, proves, conditions, verdictOf}
+use Rattle.signon.specs.Theorems.{Told, Named, BySubstitute, ByPassword, Granted, OneTold, NoneNamed, NamedWith, Sentence}
+use Rattle.signon.proofs.Lookups.{Finds, finds, told-once}
+use Rattle.signon.proofs.Rules.{clear-says, clear-said, des-says, sha-says, substitute-said}
+
+-- a profile among ascending ones is well-formed
+formed-in : (s : Shape) (before : List ℕ) (l : List Profile) (p : Profile) (behind : List Profile) → Ascending s before (l ++ p ∷ behind) → WellFormed s p
+formed-in s before [] p behind asc = asc .0
+formed-in s before (q ∷ l) p behind asc = formed-in s (q .name) l p behind (asc .1 .1)
+
+module _ (seed : List ℕ) (eight : length seed ≡ seedLength) (ps : List Profile) (asc : Ascending version1 [] ps) (vs : List Variable) (once : repeated vs ≡ false) where
+  formed : (p : Profile) → Occurs p ps → WellFormed version1 p
+  formed p o = formed-in version1 [] (o .before) p (o .behind) (subst (Ascending version1 []) (o .there) asc)
+
+  -- a profile that is named has a name
+  named-good : (user : List ℕ) (p : Profile) → Named ps vs user p → isName profileLimit user ≡ true
+  named-good user p n =
+      sym (raised-is-raised profileLimit user)
+      ∙ is-true (isRaisedName profileLimit (raised user)) (subst (λ l. T (isRaisedName profileLimit l)) (sym (n .name)) (formed p (n .occurs) .name))
+
+  -- there is one user and one named profile
+  one-user : (u w : List ℕ) → Told vs VAR USER u → Told vs VAR USER w → u ≡ w
+  one-user u w = told-once VAR USER vs u w once
+
+  pub one-profile : (u w : List ℕ) (p q : Profile) → Named ps vs u p → Named ps vs w q → p ≡ q
+  one-profile u w p q n m =
+      let same = one-user u w (n .told) (m .told) in
+      let first = lookup-is-membership version1 [] ps asc (raised u) p .1 (n .occurs, n .name) in
+      let other = lookup-is-membership version1 [] ps asc (raised u) q .1 (m .occurs, ap raised same ∙ m .name) in
+      cc
+
+  -- what a look-up of a profile says
+  abbrev LooksUp : List ℕ → ProfileLookup → Type 0
+  LooksUp name noProfile = (p : Profile) → Occurs p ps → name ≡ p .name → ⊥
+  LooksUp name (oneProfile p) = Occurs p ps × (name ≡ p .name)
+
+  looks-up : (name : List ℕ) (l : ProfileLookup) → profileNamed name ps ≡ l → LooksUp name l
+  looks-up name noProfile e = λ p o n.
+      let found = lookup-is-membership version1 [] ps asc name p .1 (o, n) in
+      let z : _≡_ {A = ℕ} 0 1 = cc in omega arith
+  looks-up name (oneProfile p) e = lookup-is-membership version1 [] ps asc name p .0 e
+
+  abbrev at : Lookup → Lookup → Lookup → ProfileLookup → Attempt
+  at cs of us pr = record { serverSeed = seed; clientSeed = cs; offered = of; user = us; profile = pr }
+
+  -- the conditions for GRANT, and all those behind PANEL
+  abbrev rules : Attempt → List Rule
+  rules a = (proves clearPassword a gives Grant) ∷ (proves (desSubstitute seed) a gives Grant) ∷ (proves (shaSubstitute seed) a gives Grant) ∷ []
+
+  abbrev known : Attempt → List Rule
+  known a =
+      (not (isPresent (a .user)) gives NotKnown)
+      ∷ (not (isName profileLimit (valueOr [] (a .user))) gives NotKnown)
+      ∷ (not (ofProfile (λ p. true) (a .profile)) gives NotKnown)
+      ∷ (not (ofProfile enabled (a .profile)) gives Disabled)
+      ∷ rules a
+
+  -- an enabled profile
+  module _ (told : OneTold vs) (u : List ℕ) (p : Profile) (n : Named ps vs u p) (on : T (enabled p)) where
+    abbrev fails : (Granted seed ps vs → ⊥) → Sentence seed ps vs Failed
+    fails never = (told, (record { user = u; profile = p; named = n; marked = on }, never))
+
+    -- both USERVARs are there
+    module _ (s o : List ℕ) (seedTold : Told vs USERVAR IBMRSEED s) (offeredTold : Told vs USERVAR IBMSUBSPW o) where
+      good : isName profileLimit u ≡ true
+      good = named-good u p n
+
+      grants : BySubstitute seed u s o p ⊎ ByPassword u s o p → Granted seed ps vs
+      grants b = record { user = u; clientSeed = s; offered = o; profile = p; seedTold = seedTold; offeredTold = offeredTold; named = n; enabled = on; by = b }
+
+      -- what is granted is granted by these
+      by-these : Granted seed ps vs → BySubstitute seed u s o p ⊎ ByPassword u s o p
+      by-these g =
+          let eu = one-user (g .user) u (g .named .told) (n .told) in
+          let es = told-once USERVAR IBMRSEED vs (g .clientSeed) s once (g .seedTold) seedTold in
+          let eo = told-once USERVAR IBMSUBSPW vs (g .offered) o once (g .offeredTold) offeredTold in
+          let ep = one-profile (g .user) u (g .profile) p (g .named) n in
+          rw (eu, es, eo, ep) at (g .by)
+
+      by-rules : Sentence seed ps vs (firstOf (rules (at (present s) (present o) (present u) (oneProfile p))) Failed)
+      unfolding firstOf valueOr
+      by-rules =
+          let f = formed p (n .occurs) in
+          choice (Sentence seed ps vs) (clearPassword u s o p)
+          (λ t. grants (inr (clear-says p f u good s o (passes (clearPassword u s o p) t))))
+          (λ noClear. choice (Sentence seed ps vs) (desSubstitute seed u s o p)
+          (λ t. grants (inl (des-says p f u good s o seed eight (passes (desSubstitute seed u s o p) t))))
+          (λ noDes. choice (Sentence seed ps vs) (shaSubstitute seed u s o p)
+          (λ t. grants (inl (sha-says p f u good s o seed eight (passes (shaSubstitute seed u s o p) t))))
+          (λ noSha. fails (λ g. ⊎-elim
+          (λ b. ⊎-elim (λ d. subst T noDes d) (λ h. subst T noSha h) (substitute-said p f u good s o seed eight b))
+          (λ b. subst T noClear (clear-said p f u good s o b))
+          (by-these g)))))
+
+    one-is-missing : (cs of : Lookup) → Finds vs USERVAR IBMRSEED cs → Finds vs USERVAR IBMSUBSPW of
+        → Sentence seed ps vs (firstOf (rules (at cs of (present u) (oneProfile p))) Failed)
+    unfolding firstOf
+    one-is-missing absent of f g = fails (λ h. f (h .seedTold .occurs))
+    one-is-missing (present s) absent f g = fails (λ h. g (h .offeredTold .occurs))
+    one-is-missing (present s) (present o) f g = by-rules s o f g
+
+  -- one of the USERVARs is there
+  module _ (told : OneTold vs) (cs of : Lookup) (f : Finds vs USERVAR IBMRSEED cs) (g : Finds vs USERVAR IBMSUBSPW of) where
+    by-profile : (u : List ℕ) (pr : ProfileLookup) → Told vs VAR USER u → LooksUp (raised u) pr
+        → Sentence seed ps vs (firstOf ((not (ofProfile (λ p. true) pr) gives NotKnown) ∷ (not (ofProfile enabled pr) gives Disabled) ∷ rules (at cs of (present u) pr)) Failed)
+    unfolding firstOf
+    by-profile u noProfile t l = (told, λ w p n. l p (n .occurs) (ap raised (one-user u w t (n .told)) ∙ n .name))
+    by-profile u (oneProfile p) t l =
+        let n : Named ps vs u p = record { told = t; occurs = l .0; name = l .1 } in
+        choice (Sentence seed ps vs) (not (enabled p))
+        (λ off. (told, record { user = u; profile = p; named = n; marked = not-true (enabled p) off }))
+        (λ on. one-is-missing told u p n (passes (enabled p) (not-false (enabled p) on)) cs of f g)
+
+    by-user : (us : Lookup) (pr : ProfileLookup) → Finds vs VAR USER us → LooksUp (raised (valueOr [] us)) pr
+        → Sentence seed ps vs (firstOf (known (at cs of us pr)) Failed)
+    unfolding firstOf valueOr
+    by-user absent pr h l = (told, λ w p n. h (n .told .occurs))
+    by-user (present u) pr h l =
+        choice (Sentence seed ps vs) (not (isName profileLimit u))
+        (λ bad. (told, λ w p n.
+        let good : isName profileLimit u ≡ true = ap (isName profileLimit) (one-user u w h (n .told)) ∙ named-good w p n in
+        let z : _≡_ {A = Bool} true false = sym good ∙ not-true (isName profileLimit u) bad in
+        subst T z tt))
+        (λ _. by-profile u pr h l)
+
+  sound-at : (cs of us : Lookup) (pr : ProfileLookup) → Finds vs USERVAR IBMRSEED cs → Finds vs USERVAR IBMSUBSPW of → Finds vs VAR USER us
+      → LooksUp (raised (valueOr [] us)) pr → Sentence seed ps vs (verdictOf (at cs of us pr))
+  unfolding verdictOf conditions firstOf
+  sound-at absent absent us pr f g h l = (f, g)
+  sound-at absent (present o) us pr f g h l = by-user (inr (g .occurs)) absent (present o) f g us pr h l
+  sound-at (present s) of us pr f g h l = by-user (inl (f .occurs)) (present s) of f g us pr h l
+
+  pub sound : Sentence seed ps vs (verdictOf (attempt seed ps vs))
+  unfolding attempt
+  sound =
+      let us = lookup VAR USER vs in
+      sound-at (lookup USERVAR IBMRSEED vs) (lookup USERVAR IBMSUBSPW vs) us (profileNamed (raised (valueOr [] us)) ps)
+      (finds USERVAR IBMRSEED vs) (finds USERVAR IBMSUBSPW vs) (finds VAR USER vs) (looks-up (raised (valueOr [] us)) (profileNamed (raised (valueOr [] us)) ps) refl)

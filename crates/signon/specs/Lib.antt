@@ -1,0 +1,4 @@
+pub mod Digits
+pub mod Attempt
+pub mod Verdict
+pub mod Theorems

@@ -1,0 +1,67 @@
+-- The verdict (specification, "Verdict, first that holds"), and the order of refusals: 35, 30 to 32, 3, 20 to 25.
+use Prim.Native.Nat.{ℕ}
+use mathlib.Core.Bool.{Bool, true, not, _&&_}
+use mathlib.Core.List.{List, [], _∷_}
+use lib.Dec.{eqb}
+use lib.ListN.{length}
+use Rattle.octets.specs.Choice.{if_then_else_}
+use Rattle.refusal.specs.Refusal.{badServerSeed}
+use Rattle.env.specs.Variable.{valueOr}
+use Rattle.env.specs.Read.{Reading, says, notRead, readingOf}
+use Rattle.names.specs.Name.{isName, profileLimit}
+use Rattle.profile.specs.Profile.{Profile, enabled}
+use Rattle.profile.specs.Table.{TableReading, profiles, tableRefused, tableOf}
+use Rattle.password_check.specs.Gives.{seedLength}
+use Rattle.signon.specs.declared.Verdict.{Verdict}
+use Rattle.signon.specs.declared.Verdict.the-variants.{Panel, NotKnown, Disabled, Failed, Grant}
+use Rattle.signon.specs.declared.Answer.{Answer}
+use Rattle.signon.specs.declared.Answer.the-variants.{Given, Refused}
+use Rattle.signon.specs.Attempt.{Attempt, attempt, isPresent, ofProfile, clearPassword, desSubstitute, shaSubstitute}
+
+-- a condition and its verdict
+pub record Rule : Type 0 where
+  pub holds : Bool
+  pub verdict : Verdict
+
+infix 4 _gives_
+abbrev pub _gives_ : Bool → Verdict → Rule
+condition gives v = record { holds = condition; verdict = v }
+
+-- the verdict of the first condition that holds, or else another
+unfoldable pub firstOf : List Rule → Verdict → Verdict
+firstOf [] other = other
+firstOf (r ∷ rs) other = if r .holds then r .verdict else firstOf rs other
+
+-- a condition on what both USERVARs say and the profile; where one is not there it does not hold
+abbrev pub proves : (List ℕ → List ℕ → List ℕ → Profile → Bool) → Attempt → Bool
+proves rule a =
+    isPresent (a .clientSeed) && isPresent (a .offered)
+    && ofProfile (rule (valueOr [] (a .user)) (valueOr [] (a .clientSeed)) (valueOr [] (a .offered))) (a .profile)
+
+-- the conditions in the specification's order
+unfoldable pub conditions : Attempt → List Rule
+conditions a =
+    (not (isPresent (a .clientSeed)) && not (isPresent (a .offered)) gives Panel)
+    ∷ (not (isPresent (a .user)) gives NotKnown)
+    ∷ (not (isName profileLimit (valueOr [] (a .user))) gives NotKnown)
+    ∷ (not (ofProfile (λ p. true) (a .profile)) gives NotKnown)
+    ∷ (not (ofProfile enabled (a .profile)) gives Disabled)
+    ∷ (proves clearPassword a gives Grant)
+    ∷ (proves (desSubstitute (a .serverSeed)) a gives Grant)
+    ∷ (proves (shaSubstitute (a .serverSeed)) a gives Grant)
+    ∷ []
+
+-- "else 0004"
+unfoldable pub verdictOf : Attempt → Verdict
+verdictOf a = firstOf (conditions a) Failed
+
+-- an answer by what the table and the payload say
+unfoldable pub answerBy : List ℕ → TableReading → Reading → Answer
+answerBy seed (tableRefused n) reading = Refused n
+answerBy seed (profiles ps) (notRead n) = Refused n
+answerBy seed (profiles ps) (says first vs) = Given (verdictOf (attempt seed ps vs))
+
+-- the answer to a server seed, a table and a payload
+unfoldable pub answerOf : List ℕ → List ℕ → List ℕ → Answer
+answerOf seed table payload =
+    if eqb (length seed) seedLength then answerBy seed (tableOf table) (readingOf payload) else Refused badServerSeed
