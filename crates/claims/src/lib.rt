@@ -1,22 +1,22 @@
 // What is proved above single functions, held: each function here does nothing and promises theorems, so that the check of this crate needs the
-// proof of every one. What is claimed is said in `specs/`; start with `Demand3.antt`.
+// proof of every one. What is claimed is said in `specs/`; start with `Demand2.antt` and `Demand3.antt`.
 //
 // Entry points are the functions that a gateway's own code calls. `octets::put`, `octets::put_decimal` and their like, which answer by true or false or by a
 // place, are helpers of the core and none of them.
 ghost use Rattle.claims.specs.Demand3.{Demand3};
-ghost use Rattle.claims.specs.RoundTrips.{RoundTrips};
+ghost use Rattle.claims.specs.Demand2.{Demand2};
 ghost use Rattle.claims.specs.Ledger.{LedgerTotal};
 ghost use Rattle.claims.specs.Worked.{lines, AllHold};
 ghost use Rattle.claims.specs.Others.{Others};
 
+// The owner's demand 2.
+pub fn demand_2()
+    ensures { λ _. ⌜ Demand2 ⌝ }
+{}
+
 // The owner's demand 3.
 pub fn demand_3()
     ensures { λ _. ⌜ Demand3 ⌝ }
-{}
-
-// What is written is read back.
-pub fn round_trips()
-    ensures { λ _. ⌜ RoundTrips ⌝ }
 {}
 
 // The total of the print ledger.

@@ -20,14 +20,14 @@ use Rattle.profile.proofs.Members.{lookup-is-membership}
 use Rattle.password_check.specs.Gives.{seedLength}
 use Rattle.signon.specs.declared.Verdict.{Verdict}
 use Rattle.signon.specs.declared.Verdict.the-variants.{Panel, NotKnown, Disabled, Failed, Grant}
-use Rattle.signon.specs.Attempt.{USER, IBMRSEED, IBMSUBSPW, Attempt, attempt, isPresent, ofProfile, clearPassword, desSubstitute, shaSubstitute}
-use Rattle.signon.specs.Verdict.{Rule, _gives_, firstOf, proves, conditions, verdictOf}
+use Rattle.signon.specs.Attempt.{USER, IBMRSEED, IBMSUBSPW, Attempt, attempt, clearPassword, desSubstitute, shaSubstitute}
+use Rattle.signon.specs.Verdict.{firstOf, grantConditions, profileConditions, conditions, verdictOf}
 use Rattle.signon.specs.Theorems.{Told, Named, BySubstitute, ByPassword, Granted, OneTold, NoneNamed, NamedWith, Sentence}
 use Rattle.signon.proofs.Lookups.{Finds, finds, told-once}
 use Rattle.signon.proofs.Rules.{clear-says, clear-said, des-says, sha-says, substitute-said}
 
 -- a profile among ascending ones is well-formed
-formed-in : (s : Shape) (before : List ℕ) (l : List Profile) (p : Profile) (behind : List Profile) → Ascending s before (l ++ p ∷ behind) → WellFormed s p
+pub formed-in : (s : Shape) (before : List ℕ) (l : List Profile) (p : Profile) (behind : List Profile) → Ascending s before (l ++ p ∷ behind) → WellFormed s p
 formed-in s before [] p behind asc = asc .0
 formed-in s before (q ∷ l) p behind asc = formed-in s (q .name) l p behind (asc .1 .1)
 
@@ -66,18 +66,6 @@ module _ (seed : List ℕ) (eight : length seed ≡ seedLength) (ps : List Profi
   abbrev at : Lookup → Lookup → Lookup → ProfileLookup → Attempt
   at cs of us pr = record { serverSeed = seed; clientSeed = cs; offered = of; user = us; profile = pr }
 
-  -- the conditions for GRANT, and all those behind PANEL
-  abbrev rules : Attempt → List Rule
-  rules a = (proves clearPassword a gives Grant) ∷ (proves (desSubstitute seed) a gives Grant) ∷ (proves (shaSubstitute seed) a gives Grant) ∷ []
-
-  abbrev known : Attempt → List Rule
-  known a =
-      (not (isPresent (a .user)) gives NotKnown)
-      ∷ (not (isName profileLimit (valueOr [] (a .user))) gives NotKnown)
-      ∷ (not (ofProfile (λ p. true) (a .profile)) gives NotKnown)
-      ∷ (not (ofProfile enabled (a .profile)) gives Disabled)
-      ∷ rules a
-
   -- an enabled profile
   module _ (told : OneTold vs) (u : List ℕ) (p : Profile) (n : Named ps vs u p) (on : T (enabled p)) where
     abbrev fails : (Granted seed ps vs → ⊥) → Sentence seed ps vs Failed
@@ -100,8 +88,8 @@ module _ (seed : List ℕ) (eight : length seed ≡ seedLength) (ps : List Profi
           let ep = one-profile (g .user) u (g .profile) p (g .named) n in
           rw (eu, es, eo, ep) at (g .by)
 
-      by-rules : Sentence seed ps vs (firstOf (rules (at (present s) (present o) (present u) (oneProfile p))) Failed)
-      unfolding firstOf valueOr
+      by-rules : Sentence seed ps vs (firstOf (grantConditions (at (present s) (present o) (present u) (oneProfile p))) Failed)
+      unfolding firstOf grantConditions valueOr
       by-rules =
           let f = formed p (n .occurs) in
           choice (Sentence seed ps vs) (clearPassword u s o p)
@@ -116,35 +104,37 @@ module _ (seed : List ℕ) (eight : length seed ≡ seedLength) (ps : List Profi
           (by-these g)))))
 
     one-is-missing : (cs of : Lookup) → Finds vs USERVAR IBMRSEED cs → Finds vs USERVAR IBMSUBSPW of
-        → Sentence seed ps vs (firstOf (rules (at cs of (present u) (oneProfile p))) Failed)
-    unfolding firstOf
+        → Sentence seed ps vs (firstOf (grantConditions (at cs of (present u) (oneProfile p))) Failed)
+    unfolding firstOf grantConditions
     one-is-missing absent of f g = fails (λ h. f (h .seedTold .occurs))
     one-is-missing (present s) absent f g = fails (λ h. g (h .offeredTold .occurs))
     one-is-missing (present s) (present o) f g = by-rules s o f g
 
   -- one of the USERVARs is there
   module _ (told : OneTold vs) (cs of : Lookup) (f : Finds vs USERVAR IBMRSEED cs) (g : Finds vs USERVAR IBMSUBSPW of) where
-    by-profile : (u : List ℕ) (pr : ProfileLookup) → Told vs VAR USER u → LooksUp (raised u) pr
-        → Sentence seed ps vs (firstOf ((not (ofProfile (λ p. true) pr) gives NotKnown) ∷ (not (ofProfile enabled pr) gives Disabled) ∷ rules (at cs of (present u) pr)) Failed)
-    unfolding firstOf
-    by-profile u noProfile t l = (told, λ w p n. l p (n .occurs) (ap raised (one-user u w t (n .told)) ∙ n .name))
-    by-profile u (oneProfile p) t l =
-        let n : Named ps vs u p = record { told = t; occurs = l .0; name = l .1 } in
-        choice (Sentence seed ps vs) (not (enabled p))
-        (λ off. (told, record { user = u; profile = p; named = n; marked = not-true (enabled p) off }))
-        (λ on. one-is-missing told u p n (passes (enabled p) (not-false (enabled p) on)) cs of f g)
+    -- no valid name
+    unnamed : (u : List ℕ) → Told vs VAR USER u → not (isName profileLimit u) ≡ true → Sentence seed ps vs NotKnown
+    unnamed u t bad = (
+      told,
+      λ w p n.
+          let good : isName profileLimit u ≡ true = ap (isName profileLimit) (one-user u w t (n .told)) ∙ named-good w p n in
+          let z : _≡_ {A = Bool} true false = sym good ∙ not-true (isName profileLimit u) bad in
+          subst T z tt,
+    )
 
     by-user : (us : Lookup) (pr : ProfileLookup) → Finds vs VAR USER us → LooksUp (raised (valueOr [] us)) pr
-        → Sentence seed ps vs (firstOf (known (at cs of us pr)) Failed)
-    unfolding firstOf valueOr
+        → Sentence seed ps vs (firstOf (profileConditions (at cs of us pr)) Failed)
+    unfolding firstOf profileConditions valueOr
     by-user absent pr h l = (told, λ w p n. h (n .told .occurs))
-    by-user (present u) pr h l =
-        choice (Sentence seed ps vs) (not (isName profileLimit u))
-        (λ bad. (told, λ w p n.
-        let good : isName profileLimit u ≡ true = ap (isName profileLimit) (one-user u w h (n .told)) ∙ named-good w p n in
-        let z : _≡_ {A = Bool} true false = sym good ∙ not-true (isName profileLimit u) bad in
-        subst T z tt))
-        (λ _. by-profile u pr h l)
+    by-user (present u) noProfile h l =
+        choice (Sentence seed ps vs) (not (isName profileLimit u)) (unnamed u h)
+        (λ _. (told, λ w p n. l p (n .occurs) (ap raised (one-user u w h (n .told)) ∙ n .name)))
+    by-user (present u) (oneProfile p) h l =
+        let n : Named ps vs u p = record { told = h; occurs = l .0; name = l .1 } in
+        choice (Sentence seed ps vs) (not (isName profileLimit u)) (unnamed u h)
+        (λ _. choice (Sentence seed ps vs) (not (enabled p))
+        (λ off. (told, record { user = u; profile = p; named = n; marked = not-true (enabled p) off }))
+        (λ on. one-is-missing told u p n (passes (enabled p) (not-false (enabled p) on)) cs of f g))
 
   sound-at : (cs of us : Lookup) (pr : ProfileLookup) → Finds vs USERVAR IBMRSEED cs → Finds vs USERVAR IBMSUBSPW of → Finds vs VAR USER us
       → LooksUp (raised (valueOr [] us)) pr → Sentence seed ps vs (verdictOf (at cs of us pr))

@@ -38,18 +38,26 @@ proves rule a =
     isPresent (a .clientSeed) && isPresent (a .offered)
     && ofProfile (rule (valueOr [] (a .user)) (valueOr [] (a .clientSeed)) (valueOr [] (a .offered))) (a .profile)
 
--- the conditions in the specification's order
-unfoldable pub conditions : Attempt → List Rule
-conditions a =
-    (not (isPresent (a .clientSeed)) && not (isPresent (a .offered)) gives Panel)
-    ∷ (not (isPresent (a .user)) gives NotKnown)
-    ∷ (not (isName profileLimit (valueOr [] (a .user))) gives NotKnown)
-    ∷ (not (ofProfile (λ p. true) (a .profile)) gives NotKnown)
-    ∷ (not (ofProfile enabled (a .profile)) gives Disabled)
-    ∷ (proves clearPassword a gives Grant)
+-- "GRANT, if both USERVARs are present and a rule below holds"
+unfoldable pub grantConditions : Attempt → List Rule
+grantConditions a =
+    (proves clearPassword a gives Grant)
     ∷ (proves (desSubstitute (a .serverSeed)) a gives Grant)
     ∷ (proves (shaSubstitute (a .serverSeed)) a gives Grant)
     ∷ []
+
+-- "0002, if VAR USER is absent, no valid name, or not in the table; 0003, not enabled;"
+unfoldable pub profileConditions : Attempt → List Rule
+profileConditions a =
+    (not (isPresent (a .user)) gives NotKnown)
+    ∷ (not (isName profileLimit (valueOr [] (a .user))) gives NotKnown)
+    ∷ (not (ofProfile (λ p. true) (a .profile)) gives NotKnown)
+    ∷ (not (ofProfile enabled (a .profile)) gives Disabled)
+    ∷ grantConditions a
+
+-- "PANEL, if neither USERVAR IBMRSEED nor IBMSUBSPW is present;"
+unfoldable pub conditions : Attempt → List Rule
+conditions a = (not (isPresent (a .clientSeed)) && not (isPresent (a .offered)) gives Panel) ∷ profileConditions a
 
 -- "else 0004"
 unfoldable pub verdictOf : Attempt → Verdict

@@ -1,4 +1,4 @@
--- `claims::round_trips` promises what `telnet`, `env`, `env_list`, `profile`, `profile_maker` and `print_ledger` prove. Assumes nothing.
+-- `claims::demand_2` promises what the families prove. Assumes nothing.
 use Rattle.telnet.proofs.RoundTrip.{reads-back, writes-back}
 use Rattle.telnet.proofs.Writable.{read-is-writable}
 use Rattle.telnet.proofs.Unroll.{unrolled}
@@ -12,11 +12,13 @@ use Rattle.env_list.proofs.Meaning.{lists-the-variables}
 use Rattle.profile.proofs.Tables.{records-read-back, tables-read-back}
 use Rattle.profile.proofs.Backs.{tables-written-back}
 use Rattle.profile_maker.proofs.Goodness.{made-records-are-good, made-tables-read}
-use Rattle.claims.proofs.round_trips.Statement.{statement}
-use Rattle.claims.proofs.round_trips.Tie as tie
+use Rattle.signon.proofs.Verdicts.{verdict-is-its-sentence, no-verdict-if-refused, only-enabled-granted}
+use Rattle.claims.specs.RoundTrips.{RoundTrips}
+use Rattle.claims.proofs.demand_2.Statement.{statement}
+use Rattle.claims.proofs.demand_2.Tie as tie
 
-returns : tie.Need-returns
-returns c = record {
+round-trips : RoundTrips
+round-trips = record {
   eventsReadBack = reads-back;
   bytesWrittenBack = writes-back;
   readIsWritable = read-is-writable;
@@ -39,5 +41,13 @@ returns c = record {
   madeTablesRead = made-tables-read;
 }
 
-pub round-trips-spec : {M : Type 1} → statement M
-round-trips-spec = tie.close (tie.spec returns)
+returns : tie.Need-returns
+returns c = record {
+  readingAndWritingAlike = round-trips;
+  verdictIsItsSentence = verdict-is-its-sentence;
+  noVerdictIfRefused = no-verdict-if-refused;
+  onlyEnabledGranted = only-enabled-granted;
+}
+
+pub demand-2-spec : {M : Type 1} → statement M
+demand-2-spec = tie.close (tie.spec returns)

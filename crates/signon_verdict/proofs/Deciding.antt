@@ -1,0 +1,189 @@
+-- The code's order of decisions is the definition's. Assumes nothing.
+use mathlib.Core.Path.{_≡_, refl, sym, ap, subst, _∙_}
+use mathlib.Core.Bool.{Bool, true, false, not, _&&_, _||_}
+use mathlib.Core.List.{List, [], _∷_}
+use Prim.Native.Nat.{ℕ, _<_}
+use native.Mathlib.Omega.{arith}
+use lib.Dec.{T}
+use lib.ListN.{length, drop, replicate}
+use denote.Floats.{is-true}
+use Rattle.octets.specs.Bytes.{Bytes}
+use Rattle.octets.specs.Choice.{if_then_else_}
+use Rattle.octets.specs.Same.{same}
+use Rattle.octets.proofs.Equality.{same-differ}
+use Rattle.env.specs.Variable.{Variable, VAR, USERVAR, Lookup, absent, present, lookup, valueOr}
+use Rattle.env.specs.Read.{Reading, says, notRead}
+use Rattle.env.specs.Numbers.{held}
+use Rattle.env_records.specs.declared.ValuePlace.{ValuePlace}
+use Rattle.env_records.specs.Records.{placeOf}
+use Rattle.env_records.specs.Theorems.{valueAt}
+use Rattle.env_records.proofs.Found.{finds-the-value}
+use Rattle.names.specs.Name.{raised, isName, isRaisedName, profileLimit}
+use Rattle.names.proofs.Held.{raised-is-raised}
+use Rattle.profile.specs.Profile.{version1, Profile, enabled, desAllowed, desToken, shaToken}
+use Rattle.profile.specs.Table.{TableReading, profiles, tableRefused, tableOf}
+use Rattle.profile.specs.Theorems.{Ascending, ProfileLookup, noProfile, oneProfile, profileNamed}
+use Rattle.profile.proofs.Backs.{tables-written-back}
+use Rattle.profile.proofs.Members.{lookup-is-membership}
+use Rattle.profile_table.specs.declared.TableCheck.{TableCheck}
+use Rattle.profile_table.specs.declared.TableCheck.the-variants.{Profiles, Refused as NotRead}
+use Rattle.profile_table.specs.declared.Found.{Found}
+use Rattle.profile_table.specs.declared.Found.the-variants.{Present, Absent, Refused as NotFound}
+use Rattle.profile_table.specs.Answer.{checked, entry, foundIn}
+use Rattle.profile_table.specs.Theorems.{standing, Tells}
+use Rattle.profile_table.proofs.Meaning.{found-is-named}
+use Rattle.password_check.specs.Gives.{givesClear, givesDes, givesSha}
+use Rattle.signon.specs.declared.Verdict.{Verdict}
+use Rattle.signon.specs.declared.Verdict.the-variants.{Panel, NotKnown, Disabled, Failed, Grant}
+use Rattle.signon.specs.declared.Answer.{Answer}
+use Rattle.signon.specs.declared.Answer.the-variants.{Given, Refused}
+use Rattle.signon.specs.Attempt.{USER, IBMRSEED, IBMSUBSPW, Attempt, attempt, isPresent, ofProfile, isClear, clearPassword, desSubstitute, shaSubstitute}
+use Rattle.signon.specs.Verdict.{firstOf, grantConditions, profileConditions, conditions, verdictOf, answerBy}
+use Rattle.signon.proofs.Sentences.{formed-in}
+use Rattle.signon_verdict.specs.near.Decisions.{userOf, seedOf, offeredOf, seedGiven, offerGiven, isPanel, unknownVerdict, isProved, judged, knownVerdict}
+
+-- whether a variable is there, by the place of its value
+pub there-by : (kind : ℕ) (name bytes numbers : List ℕ) (p q : ValuePlace) → p ≡ placeOf kind name bytes numbers → p ≡ q
+    → isPresent (valueAt bytes q) ≡ isPresent (lookup kind name (held bytes numbers))
+there-by kind name bytes numbers p q e told = ap isPresent (ap (valueAt bytes) (sym told ∙ e) ∙ finds-the-value kind name bytes numbers)
+
+-- clear seeds
+pub empty-clear : (seed : List ℕ) → length seed ≡ 0 → isClear seed ≡ true
+unfolding isClear same
+empty-clear [] h = refl
+empty-clear (b ∷ bs) h = absurd (omega arith)
+
+pub zeros-clear : (seed : List ℕ) → 0 < length seed → isClear seed ≡ same seed (replicate 8 0)
+unfolding isClear
+zeros-clear seed h = rw (same-differ seed [] (λ e. omega arith))
+
+-- the two rules, by the code's tests
+module _ (s user seed offered : List ℕ) (p : Profile) where
+  pub by-clear : isClear seed ≡ true → isProved s user seed offered p ≡ givesClear user offered (shaToken p)
+  unfolding isProved clearPassword desSubstitute shaSubstitute
+  by-clear c = rw c (or-none (givesClear user offered (shaToken p)))
+    where
+      or-none : (b : Bool) → (b || (false || false)) ≡ b
+      or-none true = refl
+      or-none false = refl
+
+  pub by-des : isClear seed ≡ false → (desAllowed p && givesDes (desToken p) user s seed offered) ≡ true → isProved s user seed offered p ≡ true
+  unfolding isProved clearPassword desSubstitute shaSubstitute
+  by-des c d = rw (c, d)
+
+  pub by-sha : isClear seed ≡ false → (desAllowed p && givesDes (desToken p) user s seed offered) ≡ false
+      → isProved s user seed offered p ≡ givesSha (shaToken p) user s seed offered
+  unfolding isProved clearPassword desSubstitute shaSubstitute
+  by-sha c d = rw (c, d)
+
+-- three conditions for GRANT that ask for both USERVARs
+granted-once : (a b x y z : Bool)
+    → (if a && b && x then Grant else if a && b && y then Grant else if a && b && z then Grant else Failed)
+    ≡ (if not a then Failed else if not b then Failed else if x || (y || z) then Grant else Failed)
+granted-once false b x y z = refl
+granted-once true false x y z = refl
+granted-once true true true y z = refl
+granted-once true true false true z = refl
+granted-once true true false false true = refl
+granted-once true true false false false = refl
+
+-- an attempt with the variables of a payload
+abbrev attemptWith : List ℕ → List Variable → ProfileLookup → Attempt
+attemptWith seed vs l = record {
+  serverSeed = seed;
+  clientSeed = lookup USERVAR IBMRSEED vs;
+  offered = lookup USERVAR IBMSUBSPW vs;
+  user = lookup VAR USER vs;
+  profile = l;
+}
+
+-- three conditions that all say 0002
+not-known : (a b : Bool) → (if a then NotKnown else if b then NotKnown else NotKnown) ≡ NotKnown
+not-known true b = refl
+not-known false true = refl
+not-known false false = refl
+
+pub unknown : (seed : List ℕ) (vs : List Variable) → verdictOf (attemptWith seed vs noProfile) ≡ unknownVerdict vs
+unfolding verdictOf conditions profileConditions firstOf unknownVerdict
+unknown seed vs = ap (λ v. if isPanel vs then Panel else v) (not-known (not (isPresent (lookup VAR USER vs))) (not (isName profileLimit (userOf vs))))
+
+pub known : (seed : List ℕ) (vs : List Variable) (p : Profile) → isPresent (lookup VAR USER vs) ≡ true → isName profileLimit (userOf vs) ≡ true
+    → verdictOf (attemptWith seed vs (oneProfile p)) ≡ knownVerdict seed vs p
+unfolding verdictOf conditions profileConditions grantConditions firstOf knownVerdict judged isProved
+known seed vs p there good =
+    let u = userOf vs in
+    let s = seedOf vs in
+    let o = offeredOf vs in
+    rw (there, good)
+    (ap (λ v. if isPanel vs then Panel else if not (enabled p) then Disabled else v)
+    (granted-once (isPresent (lookup USERVAR IBMRSEED vs)) (isPresent (lookup USERVAR IBMSUBSPW vs)) (clearPassword u s o p) (desSubstitute seed u s o p) (shaSubstitute seed u s o p)))
+
+-- a user whose profile was found is there, and is a name
+user-good : (l : Lookup) → isRaisedName profileLimit (raised (valueOr [] l)) ≡ true → (isPresent l ≡ true) × (isName profileLimit (valueOr [] l) ≡ true)
+unfolding valueOr isRaisedName
+user-good absent e = let z : _≡_ {A = ℕ} 0 1 = cc in absurd (omega arith)
+user-good (present u) e = (refl, sym (raised-is-raised profileLimit u) ∙ e)
+
+-- what an answer must be, by what the look-up in the table answers
+abbrev pub Decides : List ℕ → List ℕ → List Variable → Found → Type 0
+Decides seed table vs Absent = Given (unknownVerdict vs) ≡ answerBy seed (tableOf table) (says 0 vs)
+Decides seed table vs (Present e) =
+    (Given (knownVerdict seed vs (standing table (e .at))) ≡ answerBy seed (tableOf table) (says 0 vs)) × (e ≡ entry (e .at) (standing table (e .at)))
+Decides seed table vs (NotFound n) = Refused n ≡ answerBy seed (tableOf table) (says 0 vs)
+
+module _ (seed table : List ℕ) (vs : List Variable) (bytes : Bytes table) where
+  abbrev name : List ℕ
+  name = raised (userOf vs)
+
+  -- the table reads as profiles
+  module _ (ps : List Profile) (e : tableOf table ≡ profiles ps) where
+    given : (l : ProfileLookup) → profileNamed name ps ≡ l → Given (verdictOf (attemptWith seed vs l)) ≡ answerBy seed (tableOf table) (says 0 vs)
+    unfolding answerBy attempt
+    given l f = rw (e, ← f)
+
+    decides-read : (f : Found) → Tells table (profileNamed name ps) f → Decides seed table vs f
+    decides-read Absent t = rw (← unknown seed vs) (given noProfile t)
+    decides-read (Present d) t =
+        let p = standing table (d .at) in
+        let asc = tables-written-back table ps bytes e .1 .0 in
+        let m = lookup-is-membership version1 [] ps asc name p .0 (t .0) in
+        let formed = formed-in version1 [] (m .0 .before) p (m .0 .behind) (subst (Ascending version1 []) (m .0 .there) asc) in
+        let raisedName : isRaisedName profileLimit name ≡ true =
+        is-true (isRaisedName profileLimit name) (subst (λ l. T (isRaisedName profileLimit l)) (sym (m .1)) (formed .name)) in
+        let u = user-good (lookup VAR USER vs) raisedName in
+        (rw (← known seed vs p (u .0) (u .1)) (given (oneProfile p) (t .0)), t .1)
+    decides-read (NotFound n) t = absurd t
+
+  decides-by : (r : TableReading) → tableOf table ≡ r → Decides seed table vs (foundIn name (tableOf table))
+  unfolding foundIn answerBy
+  decides-by (profiles ps) e = decides-read ps e (foundIn name (tableOf table)) (found-is-named table ps bytes e name)
+  decides-by (tableRefused n) e = subst (Decides seed table vs) (sym (ap (foundIn name) e)) (sym (ap (λ r. answerBy seed r (says 0 vs)) e))
+
+  pub decides : (f g : Found) → f ≡ foundIn name (tableOf table) → f ≡ g → Decides seed table vs g
+  decides f g e told = subst (Decides seed table vs) (sym e ∙ told) (decides-by (tableOf table) refl)
+
+-- the answer where the payload is refused, by the check of the table
+abbrev pub Refuses : List ℕ → ℕ → TableCheck → Type 0
+Refuses table number (Profiles n) = (seed : List ℕ) → Refused number ≡ answerBy seed (tableOf table) (notRead number)
+Refuses table number (NotRead n) = (seed : List ℕ) → Refused n ≡ answerBy seed (tableOf table) (notRead number)
+
+refuses-by : (table : List ℕ) (number : ℕ) (r : TableReading) → tableOf table ≡ r → Refuses table number (checked (tableOf table))
+unfolding checked answerBy
+refuses-by table number (profiles ps) e = subst (Refuses table number) (sym (ap checked e)) (λ seed. sym (ap (λ r. answerBy seed r (notRead number)) e))
+refuses-by table number (tableRefused n) e = subst (Refuses table number) (sym (ap checked e)) (λ seed. sym (ap (λ r. answerBy seed r (notRead number)) e))
+
+pub refuses : (table : List ℕ) (number : ℕ) (t u : TableCheck) → t ≡ checked (tableOf table) → t ≡ u → Refuses table number u
+refuses table number t u e told = subst (Refuses table number) (sym e ∙ told) (refuses-by table number (tableOf table) refl)
+
+-- a verdict by the code's tests in their order
+pub judged-by : (s : List ℕ) (vs : List Variable) (p : Profile) (a b c d : Bool) → enabled p ≡ a → seedGiven vs ≡ b → offerGiven vs ≡ c
+    → isProved s (userOf vs) (seedOf vs) (offeredOf vs) p ≡ d
+    → (if not a then Disabled else if not b then Failed else if not c then Failed else if d then Grant else Failed) ≡ judged s vs p
+unfolding judged
+judged-by s vs p a b c d ea eb ec ed = rw (ea, eb, ec, ed)
+
+-- the first byte of a payload decides nothing
+pub any-first : (seed : List ℕ) (r : TableReading) (first : ℕ) (vs : List Variable) → answerBy seed r (says 0 vs) ≡ answerBy seed r (says first vs)
+unfolding answerBy
+any-first seed (profiles ps) first vs = refl
+any-first seed (tableRefused n) first vs = refl

@@ -1,0 +1,85 @@
+-- `signon_verdict::decide` meets its contract. Assumes nothing.
+use mathlib.Core.Path.{_≡_, ap, _∙_}
+use Rattle.env.specs.Numbers.{held}
+use Rattle.names.specs.Name.{raised}
+use Rattle.profile.specs.Table.{tableOf}
+use Rattle.profile_table.specs.Answer.{foundIn}
+use Rattle.signon.specs.declared.Answer.the-variants.{Given}
+use Rattle.signon_verdict.specs.near.Decisions.{userOf}
+use Rattle.signon_verdict.proofs.Deciding.{decides}
+use borrow.Author.Needs.{needs}
+use Rattle.signon_verdict.proofs.decide.Statement.{statement}
+use Rattle.signon_verdict.proofs.decide.Tie as tie
+
+user-of-requires : tie.Need-user-of-requires
+user-of-requires c κs = search needs
+
+find-requires : tie.Need-find-requires
+find-requires c κs = search needs
+
+enum-known-number : tie.Need-enum-known-number
+enum-known-number c = search needs
+
+enum-told : tie.Need-enum-told
+enum-told c = search needs
+
+without-profile-requires : tie.Need-without-profile-requires
+without-profile-requires c κs = search needs
+
+enum-known-e : tie.Need-enum-known-e
+enum-known-e c = search needs
+
+with-profile-requires : tie.Need-with-profile-requires
+with-profile-requires c κs =
+    let a = c .before .before .before .before .before .before .before .before .before .args in
+    let u = c .before .before .before .before .user-of .ensures in
+    let f = c .before .before .before .find in
+    let vs = held (a .bytes .now) (a .numbers .now) in
+    let found : f .result ≡ foundIn (raised (userOf vs)) (tableOf (a .table .now)) = f .ensures ∙ ap (λ n. foundIn (raised n) (tableOf (a .table .now))) u in
+    let d = decides (a .server-seed .now) (a .table .now) vs (λ i. c .before .before .before .before .before .before .before .shared-slice-known2 .given i .fits) (f .result) _ found (c .before .e .given .1) in
+    d .1
+
+returns : tie.Need-returns
+returns c =
+    let a = c .before .before .before .before .before .before .before .before .before .args in
+    let u = c .before .before .before .before .user-of .ensures in
+    let f = c .before .before .before .find in
+    let vs = held (a .bytes .now) (a .numbers .now) in
+    let found : f .result ≡ foundIn (raised (userOf vs)) (tableOf (a .table .now)) = f .ensures ∙ ap (λ n. foundIn (raised n) (tableOf (a .table .now))) u in
+    let d = decides (a .server-seed .now) (a .table .now) vs (λ i. c .before .before .before .before .before .before .before .shared-slice-known2 .given i .fits) (f .result) _ found (c .before .number .given .1) in
+    d
+
+returns-2 : tie.Need-returns-2
+returns-2 c =
+    let a = c .before .before .before .before .before .before .before .before .before .args in
+    let u = c .before .before .before .before .user-of .ensures in
+    let f = c .before .before .before .find in
+    let vs = held (a .bytes .now) (a .numbers .now) in
+    let found : f .result ≡ foundIn (raised (userOf vs)) (tableOf (a .table .now)) = f .ensures ∙ ap (λ n. foundIn (raised n) (tableOf (a .table .now))) u in
+    let d = decides (a .server-seed .now) (a .table .now) vs (λ i. c .before .before .before .before .before .before .before .shared-slice-known2 .given i .fits) (f .result) _ found (c .before .enum-told .given .1) in
+    ap Given (c .without-profile .ensures) ∙ d
+
+returns-3 : tie.Need-returns-3
+returns-3 c =
+    let a = c .before .before .before .before .before .before .before .before .before .before .args in
+    let u = c .before .before .before .before .before .user-of .ensures in
+    let f = c .before .before .before .before .find in
+    let vs = held (a .bytes .now) (a .numbers .now) in
+    let found : f .result ≡ foundIn (raised (userOf vs)) (tableOf (a .table .now)) = f .ensures ∙ ap (λ n. foundIn (raised n) (tableOf (a .table .now))) u in
+    let d = decides (a .server-seed .now) (a .table .now) vs (λ i. c .before .before .before .before .before .before .before .before .shared-slice-known2 .given i .fits) (f .result) _ found (c .before .before .e .given .1) in
+    ap Given (c .with-profile .ensures) ∙ d .0
+
+pub decide-spec : {M : Type 1} → statement M
+decide-spec =
+    tie.close
+    (tie.spec
+    user-of-requires
+    find-requires
+    enum-known-number
+    enum-told
+    without-profile-requires
+    enum-known-e
+    with-profile-requires
+    returns
+    returns-2
+    returns-3)

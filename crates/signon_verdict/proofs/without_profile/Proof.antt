@@ -1,0 +1,20 @@
+-- `signon_verdict::without_profile` meets its contract. Assumes nothing.
+use mathlib.Core.Path.{sym, _∙_}
+use Rattle.signon_verdict.specs.near.Decisions.{unknownVerdict}
+use borrow.Author.Needs.{needs}
+use Rattle.signon_verdict.proofs.without_profile.Statement.{statement}
+use Rattle.signon_verdict.proofs.without_profile.Tie as tie
+
+is-panel-requires : tie.Need-is-panel-requires
+is-panel-requires c κs = search needs
+
+returns : tie.Need-returns
+unfolding unknownVerdict
+returns c = rw (sym (c .before .is-panel .ensures) ∙ c .if1 .taken)
+
+returns-2 : tie.Need-returns-2
+unfolding unknownVerdict
+returns-2 c = rw (sym (c .before .is-panel .ensures) ∙ c .if1 .left)
+
+pub without-profile-spec : {M : Type 1} → statement M
+without-profile-spec = tie.close (tie.spec is-panel-requires returns returns-2)

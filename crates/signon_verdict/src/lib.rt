@@ -1,0 +1,228 @@
+// The sign-on verdict: of this session's server seed, the profile table and the payload of NEW-ENVIRON that the client sent. What is right is said in the
+// crate `signon`. One call reads the payload into 1,024 bytes and 320 numbers on the stack and takes one pass over the table.
+ghost use mathlib.Core.Bool.{_&&_};
+ghost use mathlib.Core.Path.{_≡_};
+ghost use mathlib.Core.List.{List};
+ghost use Prim.Native.Nat.{ℕ};
+ghost use lib.ListN.{drop};
+ghost use Rattle.env.specs.Variable.{lookup};
+ghost use Rattle.env.specs.Numbers.{held};
+ghost use Rattle.env.specs.Read.{says, notRead};
+ghost use Rattle.profile.specs.Profile.{version1, desAllowed, desToken};
+ghost use Rattle.profile.specs.Table.{profileAt, tableOf};
+ghost use Rattle.profile_table.specs.Answer.{entry};
+ghost use Rattle.password_check.specs.Gives.{givesDes};
+ghost use Rattle.signon.specs.Attempt.{isPresent, isClear};
+ghost use Rattle.signon.specs.Verdict.{answerBy, answerOf};
+ghost use Rattle.signon_verdict.specs.near.Decisions.{userOf, seedOf, offeredOf, seedGiven, offerGiven, isPanel};
+ghost use Rattle.signon_verdict.specs.near.Decisions.{isProved, unknownVerdict, judged, knownVerdict};
+use env_records::ValuePlace;
+use profile_table::Entry;
+use profile_table::Found;
+use profile_table::TableCheck;
+use signon::Answer;
+use signon::Verdict;
+
+// Whether a variable of a kind and name is there.
+fn is_there(bytes: &[u8], numbers: &[usize], kind: usize, name: &[u8]) -> bool
+    ensures { λ r. ⌜ r ≡ isPresent (lookup kind (now (name .entry)) (held (now (bytes .entry)) (now (numbers .entry)))) ⌝ }
+{
+    match env_records::find(bytes, numbers, kind, name) {
+        ValuePlace::Absent => false,
+        ValuePlace::At(_, _) => true,
+    }
+}
+
+fn seed_given(bytes: &[u8], numbers: &[usize]) -> bool
+    ensures { λ r. ⌜ r ≡ seedGiven (held (now (bytes .entry)) (now (numbers .entry))) ⌝ }
+{
+    is_there(bytes, numbers, 3, b"IBMRSEED")
+}
+
+fn offer_given(bytes: &[u8], numbers: &[usize]) -> bool
+    ensures { λ r. ⌜ r ≡ offerGiven (held (now (bytes .entry)) (now (numbers .entry))) ⌝ }
+{
+    is_there(bytes, numbers, 3, b"IBMSUBSPW")
+}
+
+fn user_of<'a>(bytes: &'a [u8], numbers: &[usize]) -> &'a [u8]
+    ensures { λ r. ⌜ now r ≡ userOf (held (now (bytes .entry)) (now (numbers .entry))) ⌝ }
+{
+    env_records::value_of(bytes, numbers, 0, b"USER")
+}
+
+fn seed_of<'a>(bytes: &'a [u8], numbers: &[usize]) -> &'a [u8]
+    ensures { λ r. ⌜ now r ≡ seedOf (held (now (bytes .entry)) (now (numbers .entry))) ⌝ }
+{
+    env_records::value_of(bytes, numbers, 3, b"IBMRSEED")
+}
+
+fn offered_of<'a>(bytes: &'a [u8], numbers: &[usize]) -> &'a [u8]
+    ensures { λ r. ⌜ now r ≡ offeredOf (held (now (bytes .entry)) (now (numbers .entry))) ⌝ }
+{
+    env_records::value_of(bytes, numbers, 3, b"IBMSUBSPW")
+}
+
+// Whether neither USERVAR is there.
+fn is_panel(bytes: &[u8], numbers: &[usize]) -> bool
+    ensures { λ r. ⌜ r ≡ isPanel (held (now (bytes .entry)) (now (numbers .entry))) ⌝ }
+{
+    if seed_given(bytes, numbers) {
+        return false;
+    }
+    !offer_given(bytes, numbers)
+}
+
+// Whether a seed is empty or eight zeros.
+fn is_clear(seed: &[u8]) -> bool
+    ensures { λ r. ⌜ r ≡ isClear (now (seed .entry)) ⌝ }
+{
+    if seed.len() == 0 {
+        return true;
+    }
+    octets::same(seed, &[0u8; 8])
+}
+
+// Whether what is offered is the substitute by DES, and DES is allowed.
+fn des_proved(
+    server_seed: &[u8],
+    table: &[u8],
+    e: Entry,
+    user: &[u8],
+    seed: &[u8],
+    offered: &[u8],
+) -> bool
+    ensures { λ r. ⌜
+        r ≡ (e .«des_allowed» && givesDes (desToken (profileAt version1 (drop (e .at) (now (table .entry)))))
+        (now (user .entry)) (now («server_seed» .entry)) (now (seed .entry)) (now (offered .entry)))
+        ⌝ }
+{
+    if !e.des_allowed {
+        return false;
+    }
+    let token = profile_tokens::des_token(table, e.at);
+    password_check::gives_des(token, user, server_seed, seed, offered)
+}
+
+// Whether what is offered is what the profile at an entry gives.
+fn is_proved(
+    server_seed: &[u8],
+    table: &[u8],
+    e: Entry,
+    user: &[u8],
+    seed: &[u8],
+    offered: &[u8],
+) -> bool
+    requires { ⌜ e .«des_allowed» ≡ desAllowed (profileAt version1 (drop (e .at) (now table))) ⌝ }
+    ensures { λ r. ⌜
+        r ≡ isProved (now («server_seed» .entry)) (now (user .entry)) (now (seed .entry)) (now (offered .entry))
+        (profileAt version1 (drop (e .at) (now (table .entry))))
+        ⌝ }
+{
+    let token = profile_tokens::sha_token(table, e.at);
+    if is_clear(seed) {
+        return password_check::gives_clear(user, offered, token);
+    }
+    if des_proved(server_seed, table, e, user, seed, offered) {
+        return true;
+    }
+    password_check::gives_sha(token, user, server_seed, seed, offered)
+}
+
+// The verdict where a profile was found and PANEL is not asked for.
+fn judge(server_seed: &[u8], table: &[u8], e: Entry, bytes: &[u8], numbers: &[usize]) -> Verdict
+    requires { ⌜ e ≡ entry (e .at) (profileAt version1 (drop (e .at) (now table))) ⌝ }
+    ensures { λ r. ⌜
+        r ≡ judged (now («server_seed» .entry)) (held (now (bytes .entry)) (now (numbers .entry))) (profileAt version1 (drop (e .at) (now (table .entry))))
+        ⌝ }
+{
+    if !e.enabled {
+        return Verdict::Disabled;
+    }
+    if !seed_given(bytes, numbers) {
+        return Verdict::Failed;
+    }
+    if !offer_given(bytes, numbers) {
+        return Verdict::Failed;
+    }
+    if is_proved(
+        server_seed,
+        table,
+        e,
+        user_of(bytes, numbers),
+        seed_of(bytes, numbers),
+        offered_of(bytes, numbers),
+    ) {
+        return Verdict::Grant;
+    }
+    Verdict::Failed
+}
+
+// The verdict where no profile was found.
+fn without_profile(bytes: &[u8], numbers: &[usize]) -> Verdict
+    ensures { λ r. ⌜ r ≡ unknownVerdict (held (now (bytes .entry)) (now (numbers .entry))) ⌝ }
+{
+    if is_panel(bytes, numbers) {
+        return Verdict::Panel;
+    }
+    Verdict::NotKnown
+}
+
+// The verdict where a profile was found.
+fn with_profile(
+    server_seed: &[u8],
+    table: &[u8],
+    e: Entry,
+    bytes: &[u8],
+    numbers: &[usize],
+) -> Verdict
+    requires { ⌜ e ≡ entry (e .at) (profileAt version1 (drop (e .at) (now table))) ⌝ }
+    ensures { λ r. ⌜
+        r ≡ knownVerdict (now («server_seed» .entry)) (held (now (bytes .entry)) (now (numbers .entry))) (profileAt version1 (drop (e .at) (now (table .entry))))
+        ⌝ }
+{
+    if is_panel(bytes, numbers) {
+        return Verdict::Panel;
+    }
+    judge(server_seed, table, e, bytes, numbers)
+}
+
+// The answer to a payload that was read: its variables are those of the records.
+fn decide(server_seed: &[u8], table: &[u8], bytes: &[u8], numbers: &[usize]) -> Answer
+    ensures { λ r. ⌜
+        r ≡ answerBy (now («server_seed» .entry)) (tableOf (now (table .entry))) (says 0 (held (now (bytes .entry)) (now (numbers .entry))))
+        ⌝ }
+{
+    match profile_table::find(table, user_of(bytes, numbers)) {
+        Found::Refused(number) => Answer::Refused(number),
+        Found::Absent => Answer::Given(without_profile(bytes, numbers)),
+        Found::Present(e) => Answer::Given(with_profile(server_seed, table, e, bytes, numbers)),
+    }
+}
+
+// The answer to a payload that is refused: a fault of the table comes first.
+fn refuse(table: &[u8], number: u8) -> Answer
+    ensures { λ r. ⌜ ((seed : List ℕ) → r ≡ answerBy seed (tableOf (now (table .entry))) (notRead number)) ⌝ }
+{
+    match profile_table::check(table) {
+        TableCheck::Refused(n) => Answer::Refused(n),
+        TableCheck::Profiles(_) => Answer::Refused(number),
+    }
+}
+
+// The verdict, or a refusal: 35; 30, 31, 32; 3; 20 to 25.
+pub fn verdict(server_seed: &[u8], table: &[u8], payload: &[u8]) -> Answer
+    ensures { λ r. ⌜ r ≡ answerOf (now («server_seed» .entry)) (now (table .entry)) (now (payload .entry)) ⌝ }
+{
+    if server_seed.len() != 8 {
+        return Answer::Refused(refusal::BAD_SERVER_SEED);
+    }
+    let mut bytes = [0u8; 1024];
+    let mut numbers = [0usize; 320];
+    match env_reader::read(payload, &mut bytes, &mut numbers) {
+        env_delivery::Answer::Refused(number) => refuse(table, number),
+        env_delivery::Answer::Read(_, count, used) => {
+            decide(server_seed, table, &bytes[0..used], &numbers[0..5 * count])
+        }
+    }
+}
