@@ -1,3 +1,2 @@
-pub mod Again
 pub mod Prefix
 pub mod Quiet

@@ -1,45 +1,46 @@
 // Runs the reader of environment strings into a lent list of variable records, on the cases of standard input, which are laid out as those of
 // `run_env_reader`: the room lent for numbers is five times the records lent, at most 66.
 //
-// The list is filled with records of five 7s before the call, and read record by record after it, so that a line of output is that of `run_env_reader`:
-// the answer, all lent bytes, and the five numbers of every lent record. `stdout` is that of `run_env_reader` for the same cases.
+// The list is filled with records of five 7s before the call, so that a line of output is that of `run_env_reader`: the answer, all lent bytes, and the
+// five numbers of every lent record. `stdout` is that of `run_env_reader` for the same cases.
 use env::RECORD_WIDTH;
 use env::VariableRecord;
 use env_delivery::Answer;
-use env_list::get;
 use env_list::read_records;
-use env_list::set;
+use octets_part::part;
 ghost use Prim.Native.Nat.{_≤_};
+
+fn say(text: &[u8]) {
+    io::write_all(1, text);
+}
 
 // A number with a blank before it.
 fn say_number(n: usize) {
-    let blank = [b' '; 1];
-    io::write_all(1, &blank);
+    say(b" ");
     io::print_decimal(1, n as u64);
 }
 
 fn say_answer(answer: Answer) {
     match answer {
         Answer::Read(first, count, used) => {
-            io::write_all(1, b" read");
+            say(b" read");
             say_number(first as usize);
             say_number(count);
             say_number(used);
         }
         Answer::Refused(n) => {
-            io::write_all(1, b" refused");
+            say(b" refused");
             say_number(n as usize);
         }
     }
 }
 
-// The answer, and the bytes between semicolons, of which the text is full at first.
-fn say_lent(answer: Answer, bytes: &mut [u8]) {
+// Bytes between semicolons, of which the text is full at first.
+fn say_bytes(bytes: &[u8]) {
     let mut text = [b';'; 3302];
-    say_answer(answer);
     let n = show::put_hex_spaced(bytes, &mut text, 1);
     if n <= 3301 {
-        io::write_all(1, &text[0..n + 1]);
+        say(&text[0..n + 1]);
     }
 }
 
@@ -51,44 +52,29 @@ fn say_record(v: VariableRecord) {
     say_number(v.value_length);
 }
 
-fn say_records(records: &[VariableRecord]) {
-    let mut i: usize = 0;
-    while i < records.len() {
-        say_record(get(records, i));
-        i += 1;
-    }
-}
-
-fn fill(records: &mut [VariableRecord], v: VariableRecord) {
-    let mut i: usize = 0;
-    while i < records.len() {
-        set(records, i, v);
-        i += 1;
-    }
-}
-
-fn read_into(payload: &[u8], bytes: &mut [u8], records: &mut [VariableRecord], v: VariableRecord) {
-    fill(records, v);
-    let answer = read_records(payload, bytes, records);
-    say_lent(answer, bytes);
-}
-
-fn read_list(payload: &[u8], bytes: &mut [u8], n: usize, v: VariableRecord)
+// Says the answer to a payload that is read into the first n of 66 records, and gives the records.
+fn read_into(payload: &[u8], bytes: &mut [u8], n: usize, v: VariableRecord) -> [VariableRecord; 66]
     requires { ⌜ n ≤ 66 ⌝ }
 {
     let mut records = [v; 66];
-    read_into(payload, bytes, &mut records[..n], v);
-    say_records(&records[..n]);
+    let answer = read_records(payload, bytes, &mut records[..n]);
+    say_answer(answer);
+    records
 }
 
-// The number that two bytes say.
-fn number(high: u8, low: u8) -> usize {
-    (high as usize) * 256 + (low as usize)
+fn say_records(records: [VariableRecord; 66], n: usize)
+    requires { ⌜ n ≤ 66 ⌝ }
+{
+    let mut i: usize = 0;
+    while i < n {
+        say_record(records[i]);
+        i += 1;
+    }
 }
 
-fn run_case(text: &[u8]) {
-    let mut case = [0u8; 2200];
-    let mut bytes = [0xEEu8; 1100];
+fn read_list(payload: &[u8], bytes: &mut [u8], n: usize)
+    requires { ⌜ n ≤ 66 ⌝ }
+{
     let sevens = VariableRecord {
         kind: 7,
         name_at: 7,
@@ -96,44 +82,77 @@ fn run_case(text: &[u8]) {
         value_at: 7,
         value_length: 7,
     };
-    let n = show::read_hex(text, &mut case);
-    let room = number(case[0], case[1]);
-    let list = number(case[2], case[3]) / RECORD_WIDTH;
-    if n < 4 {
-        return;
-    }
-    if 2200 < n {
-        return;
-    }
+    let records = read_into(payload, bytes, n, sevens);
+    say_bytes(bytes);
+    say_records(records, n);
+    say(b"\n");
+}
+
+fn read_in(payload: &[u8], room: usize, list: usize) {
+    let mut bytes = [0xEEu8; 1100];
     if 1100 < room {
         return;
     }
     if list <= 66 {
-        read_list(&case[4..n], &mut bytes[0..room], list, sevens);
+        read_list(payload, &mut bytes[0..room], list);
     }
 }
 
-// Every case of a text: what stands before its digits, with the titles above it, what it says, and the end of its line.
+// The number that two bytes say.
+fn number(high: u8, low: u8) -> usize {
+    (high as usize) * 256 + (low as usize)
+}
+
+fn run_case(bytes: &[u8]) {
+    let n = bytes.len();
+    if 4 <= n {
+        read_in(
+            part(bytes, 4, n),
+            number(bytes[0], bytes[1]),
+            number(bytes[2], bytes[3]) / RECORD_WIDTH,
+        );
+    }
+}
+
+fn run_hex(text: &[u8]) {
+    let mut bytes = [0u8; 2200];
+    let n = show::read_hex(text, &mut bytes);
+    if n <= 2200 {
+        run_case(&bytes[0..n]);
+    }
+}
+
+// A line that has no colon is said as it is.
+fn run_line(line: &[u8]) {
+    let n = line.len();
+    let colon = show::find_byte(line, 0, b':');
+    if n <= colon {
+        say(line);
+        return;
+    }
+    if 2 <= n - colon {
+        say(part(line, 0, colon + 1));
+        run_hex(part(line, colon + 2, n));
+    }
+}
+
+// Every line of a text.
 fn run(text: &[u8]) {
     let mut at = 0;
     while at < text.len() {
-        let colon = show::find_byte(text, at, b':');
-        let end = show::find_byte(text, colon, b'\n');
+        let end = show::find_byte(text, at, b'\n');
         if text.len() <= end {
             return;
         }
-        if end - colon < 2 {
-            return;
-        }
-        io::write_all(1, &text[at..colon + 1]);
-        run_case(&text[colon + 2..end]);
-        io::write_all(1, &text[end..end + 1]);
-        at = end + 1;
+        let next = end + 1;
+        run_line(part(text, at, next - at));
+        at = next;
     }
 }
 
+// What stands behind the input is not a line: no line ends there.
 fn main() {
-    let mut input = [0u8; 65536];
-    let n = io::read_full(0, &mut input);
-    run(&input[..n]);
+    let mut input = io::large_buffer();
+    io::read_full(0, &mut input);
+    run(&input);
 }
