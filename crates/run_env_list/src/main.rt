@@ -8,6 +8,7 @@ use env::VariableRecord;
 use env_delivery::Answer;
 use env_list::read_records;
 use octets_part::part;
+use show_numbers::number_at;
 ghost use Prim.Native.Nat.{_≤_};
 
 fn say(text: &[u8]) {
@@ -98,20 +99,12 @@ fn read_in(payload: &[u8], room: usize, list: usize) {
     }
 }
 
-// The number that two bytes say.
-fn number(high: u8, low: u8) -> usize {
-    (high as usize) * 256 + (low as usize)
-}
-
 fn run_case(bytes: &[u8]) {
-    let n = bytes.len();
-    if 4 <= n {
-        read_in(
-            part(bytes, 4, n),
-            number(bytes[0], bytes[1]),
-            number(bytes[2], bytes[3]) / RECORD_WIDTH,
-        );
-    }
+    read_in(
+        part(bytes, 4, bytes.len()),
+        number_at(bytes, 0),
+        number_at(bytes, 2) / RECORD_WIDTH,
+    );
 }
 
 fn run_hex(text: &[u8]) {

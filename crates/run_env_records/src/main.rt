@@ -5,6 +5,9 @@
 // A line of output has the name and the answers of `find`, the length and place of the value, and of `value_of`, the value. The records are those that the payloads of RFC 4777 are
 // read to, and others for the readings of the specification. `stdout` was made by a Python rendering of RFC 1572 as the specification reads it.
 use env_records::ValuePlace;
+use octets_part::part;
+use show_numbers::number_at;
+use show_numbers::put_numbers;
 
 fn say(text: &[u8]) {
     io::write_all(1, text);
@@ -41,31 +44,9 @@ fn find_in(kind: usize, name: &[u8], buffer: &[u8], numbers: &[usize]) {
     say_bytes(env_records::value_of(buffer, numbers, kind, name));
 }
 
-// The number that two bytes say.
-fn number(high: u8, low: u8) -> usize {
-    (high as usize) * 256 + (low as usize)
-}
-
-fn set(numbers: &mut [usize], i: usize, n: usize) {
-    if i < numbers.len() {
-        numbers[i] = n;
-    }
-}
-
-// The numbers that pairs of bytes say.
-fn put_numbers(bytes: &[u8], numbers: &mut [usize]) {
-    let n = bytes.len() / 2;
-    let mut i = 0;
-    while i < n {
-        set(numbers, i, number(bytes[2 * i], bytes[2 * i + 1]));
-        i += 1;
-    }
-}
-
 fn run_over(kind: usize, name: &[u8], buffer: &[u8], rest: &[u8]) {
     let mut numbers = [0usize; 100];
-    let n = rest.len() / 2;
-    put_numbers(rest, &mut numbers);
+    let n = put_numbers(rest, &mut numbers);
     if n <= 100 {
         find_in(kind, name, buffer, &numbers[0..n]);
     }
@@ -77,9 +58,9 @@ fn run_records(kind: usize, name: &[u8], bytes: &[u8]) {
     if n < 2 {
         return;
     }
-    let m = number(bytes[0], bytes[1]);
+    let m = number_at(bytes, 0);
     if m <= n - 2 {
-        run_over(kind, name, &bytes[2..2 + m], &bytes[2 + m..n]);
+        run_over(kind, name, part(bytes, 2, m), part(bytes, 2 + m, n));
     }
 }
 
@@ -95,9 +76,9 @@ fn run_case(bytes: &[u8]) {
     let m = wide(bytes[2]);
     if m <= n - 3 {
         run_records(
-            number(bytes[0], bytes[1]),
-            &bytes[3..3 + m],
-            &bytes[3 + m..n],
+            number_at(bytes, 0),
+            part(bytes, 3, m),
+            part(bytes, 3 + m, n),
         );
     }
 }
@@ -110,17 +91,17 @@ fn run_hex(text: &[u8]) {
     }
 }
 
+// A line that has no colon is said as it is.
 fn run_line(line: &[u8]) {
     let n = line.len();
     let colon = show::find_byte(line, 0, b':');
     if n <= colon {
         say(line);
-        say(b"\n");
         return;
     }
-    say(&line[0..colon + 1]);
     if 2 <= n - colon {
-        run_hex(&line[colon + 2..n]);
+        say(part(line, 0, colon + 1));
+        run_hex(part(line, colon + 2, n));
     }
 }
 
@@ -132,13 +113,15 @@ fn run(text: &[u8]) {
         if text.len() <= end {
             return;
         }
-        run_line(&text[at..end]);
-        at = end + 1;
+        let next = end + 1;
+        run_line(part(text, at, next - at));
+        at = next;
     }
 }
 
+// What stands behind the input is not a line: no line ends there.
 fn main() {
     let mut input = [0u8; 16384];
-    let n = io::read_full(0, &mut input);
-    run(&input[..n]);
+    io::read_full(0, &mut input);
+    run(&input);
 }

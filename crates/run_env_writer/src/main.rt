@@ -6,6 +6,9 @@
 // again; the others are for the refusals of the specification and every two faults in either order. `stdout` was made by a Python rendering of
 // RFC 1572 as the specification reads it.
 use env_writer::Written;
+use octets_part::part;
+use show_numbers::number_at;
+use show_numbers::put_numbers;
 
 fn say(text: &[u8]) {
     io::write_all(1, text);
@@ -46,35 +49,9 @@ fn write_in(first: u8, buffer: &[u8], numbers: &[usize], room: usize) {
     }
 }
 
-// The number that two bytes say; FFFF stands for the largest there is.
-fn number(high: u8, low: u8) -> usize {
-    let n = (high as usize) * 256 + (low as usize);
-    if n == 65535 {
-        return 0xFFFFFFFFFFFFFFFF;
-    }
-    n
-}
-
-fn set(numbers: &mut [usize], i: usize, n: usize) {
-    if i < numbers.len() {
-        numbers[i] = n;
-    }
-}
-
-// The numbers that pairs of bytes say.
-fn put_numbers(bytes: &[u8], numbers: &mut [usize]) {
-    let n = bytes.len() / 2;
-    let mut i = 0;
-    while i < n {
-        set(numbers, i, number(bytes[2 * i], bytes[2 * i + 1]));
-        i += 1;
-    }
-}
-
 fn run_over(first: u8, room: usize, buffer: &[u8], rest: &[u8]) {
     let mut numbers = [0usize; 400];
-    let n = rest.len() / 2;
-    put_numbers(rest, &mut numbers);
+    let n = put_numbers(rest, &mut numbers);
     if n <= 400 {
         write_in(first, buffer, &numbers[0..n], room);
     }
@@ -85,13 +62,13 @@ fn run_case(bytes: &[u8]) {
     if n < 5 {
         return;
     }
-    let m = number(bytes[3], bytes[4]);
+    let m = number_at(bytes, 3);
     if m <= n - 5 {
         run_over(
             bytes[0],
-            number(bytes[1], bytes[2]),
-            &bytes[5..5 + m],
-            &bytes[5 + m..n],
+            number_at(bytes, 1),
+            part(bytes, 5, m),
+            part(bytes, 5 + m, n),
         );
     }
 }
@@ -104,17 +81,17 @@ fn run_hex(text: &[u8]) {
     }
 }
 
+// A line that has no colon is said as it is.
 fn run_line(line: &[u8]) {
     let n = line.len();
     let colon = show::find_byte(line, 0, b':');
     if n <= colon {
         say(line);
-        say(b"\n");
         return;
     }
-    say(&line[0..colon + 1]);
     if 2 <= n - colon {
-        run_hex(&line[colon + 2..n]);
+        say(part(line, 0, colon + 1));
+        run_hex(part(line, colon + 2, n));
     }
 }
 
@@ -126,13 +103,15 @@ fn run(text: &[u8]) {
         if text.len() <= end {
             return;
         }
-        run_line(&text[at..end]);
-        at = end + 1;
+        let next = end + 1;
+        run_line(part(text, at, next - at));
+        at = next;
     }
 }
 
+// What stands behind the input is not a line: no line ends there.
 fn main() {
     let mut input = [0u8; 81920];
-    let n = io::read_full(0, &mut input);
-    run(&input[..n]);
+    io::read_full(0, &mut input);
+    run(&input);
 }

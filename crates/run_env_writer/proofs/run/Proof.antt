@@ -20,20 +20,17 @@ find-byte-requires c κs = search needs
 returns : tie.Need-returns Inv-loop μ-loop
 returns c = search needs
 
-sub-run-line : tie.Need-sub-run-line Inv-loop μ-loop
-sub-run-line c = search needs
+add-next : tie.Need-add-next Inv-loop μ-loop
+add-next c = search needs
 
-part-run-line-start : tie.Need-part-run-line-start Inv-loop μ-loop
-part-run-line-start c = search needs
+sub-part : tie.Need-sub-part Inv-loop μ-loop
+sub-part c = search needs
 
-part-run-line-end : tie.Need-part-run-line-end Inv-loop μ-loop
-part-run-line-end c = search needs
+part-requires : tie.Need-part-requires Inv-loop μ-loop
+part-requires c κs = search needs
 
 run-line-requires : tie.Need-run-line-requires Inv-loop μ-loop
 run-line-requires c κs = search needs
-
-add-at : tie.Need-add-at Inv-loop μ-loop
-add-at c = search needs
 
 loop-less : tie.Need-loop-less Inv-loop μ-loop
 loop-less c = search needs
@@ -53,11 +50,10 @@ run-spec =
     loop-holds
     find-byte-requires
     returns
-    sub-run-line
-    part-run-line-start
-    part-run-line-end
+    add-next
+    sub-part
+    part-requires
     run-line-requires
-    add-at
     loop-less
     loop-again
     returns-2)
