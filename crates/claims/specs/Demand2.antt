@@ -1,6 +1,7 @@
 -- The owner's demand 2, as far as it is more than the promises of single functions: what is written is read back, and sign-on is granted exactly when the
--- demand says. The base has no response records yet.
+-- demand says.
 use Rattle.signon.specs.Theorems.{VerdictIsItsSentence, NoVerdictIfRefused, OnlyEnabledGranted}
+use Rattle.startup.specs.Theorems.{ResponsesAreRight}
 use Rattle.claims.specs.RoundTrips.{RoundTrips}
 
 pub record Demand2 : Type 0 where
@@ -14,3 +15,6 @@ pub record Demand2 : Type 0 where
   pub noVerdictIfRefused : NoVerdictIfRefused
   -- A profile that is not enabled, or not in the table, is never granted, whatever is offered.
   pub onlyEnabledGranted : OnlyEnabledGranted
+  -- "8902 for a device fault, which outranks sign-on; else the verdict's digits; else I902": the code in a response record says fault and verdict, the record
+  -- has the figures' 73 bytes, and on the line it reads back as one record.
+  pub responsesAreRight : ResponsesAreRight

@@ -6,6 +6,7 @@ use Prim.Native.Nat.{ℕ, _+_, _≤_, _<_}
 use native.Mathlib.Omega.{arith}
 use borrow.Author.Tests.{not-false, lt-ltb, le-ltb}
 use lib.ListN.{length}
+use Rattle.octets.specs.Promise.{writeFront}
 use Rattle.octets.specs.Lent.{outcome, overwrite}
 use Rattle.octets.proofs.Choice.{choice}
 use Rattle.refusal.specs.Refusal.{noRoom}
@@ -16,7 +17,7 @@ use Rattle.password_sha.specs.Answer.{shaToken}
 use Rattle.profile.specs.Profile.{flagsByte, recordBytes}
 use Rattle.profile_maker.specs.declared.Made.the-variants.{Wrote, Refused}
 use Rattle.profile_maker.specs.Made.{Making, madeProfile}
-use Rattle.profile_maker.specs.Promise.{writeFront, makeInto}
+use Rattle.profile_maker.specs.Promise.{makeInto}
 use Rattle.profile_maker.specs.near.Parts.{SaysDes, laidOut}
 use Rattle.profile_maker.proofs.Formed.{laid, size}
 
@@ -43,7 +44,7 @@ says m =
     (λ f. record { refused = λ z. absurd (z refl); given = λ _. record { named = not-false name e; passed = not-false password f; is = refl } }))
 
 module _ (m : Making) (token : List ℕ) (g : Given m token) (out : List ℕ) where
-  writes : makeInto m out ≡ writeFront (recordBytes (madeProfile m)) out
+  writes : makeInto m out ≡ writeFront Wrote (Refused noRoom) (recordBytes (madeProfile m)) out
   unfolding makeInto
   writes = rw (g .named, g .passed)
 

@@ -8,6 +8,7 @@ use borrow.Author.Tests.{not-false}
 use denote.Floats.{is-true}
 use lib.Dec.{ltb}
 use lib.ListN.{length, take, length-map}
+use Rattle.octets.specs.Promise.{writeFront}
 use Rattle.octets.specs.Lent.{Outcome}
 use Rattle.octets.proofs.Choice.{choice}
 use Rattle.octets.proofs.Overwrite.{take-overwrite-front}
@@ -19,7 +20,7 @@ use Rattle.profile.proofs.Tables.{tables-read-back}
 use Rattle.profile_maker.specs.declared.Made.{Made}
 use Rattle.profile_maker.specs.declared.Made.the-variants.{Wrote, Refused}
 use Rattle.profile_maker.specs.Made.{Making, madeProfile}
-use Rattle.profile_maker.specs.Promise.{writeFront, makeInto}
+use Rattle.profile_maker.specs.Promise.{makeInto}
 use Rattle.profile_maker.specs.Theorems.{Good, AscendingMakings, MadeRecordsAreGood, MadeTablesRead}
 use Rattle.profile_maker.proofs.Formed.{formed, size}
 

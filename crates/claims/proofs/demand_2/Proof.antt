@@ -13,6 +13,7 @@ use Rattle.profile.proofs.Tables.{records-read-back, tables-read-back}
 use Rattle.profile.proofs.Backs.{tables-written-back}
 use Rattle.profile_maker.proofs.Goodness.{made-records-are-good, made-tables-read}
 use Rattle.signon.proofs.Verdicts.{verdict-is-its-sentence, no-verdict-if-refused, only-enabled-granted}
+use Rattle.startup.proofs.Records.{responses-are-right}
 use Rattle.claims.specs.RoundTrips.{RoundTrips}
 use Rattle.claims.proofs.demand_2.Statement.{statement}
 use Rattle.claims.proofs.demand_2.Tie as tie
@@ -47,6 +48,7 @@ returns c = record {
   verdictIsItsSentence = verdict-is-its-sentence;
   noVerdictIfRefused = no-verdict-if-refused;
   onlyEnabledGranted = only-enabled-granted;
+  responsesAreRight = responses-are-right;
 }
 
 pub demand-2-spec : {M : Type 1} → statement M
