@@ -11,7 +11,8 @@ use Rattle.octets.proofs.Equality.{same-sound, same-refl}
 use Rattle.names.specs.Order.{precedes}
 use Rattle.names.proofs.Order.{strict-and-total}
 use Rattle.profile.specs.Profile.{Shape, Profile}
-use Rattle.profile.specs.Theorems.{Ascending, oneProfile, profileNamed, Occurs, LookupIsMembership}
+use Rattle.profile.specs.Lookup.{oneProfile, profileNamed}
+use Rattle.profile.specs.Theorems.{Ascending, Occurs, LookupIsMembership}
 
 -- what is found is there, and has the name
 found : (name : List ℕ) (p : Profile) (ps : List Profile) → profileNamed name ps ≡ oneProfile p → Occurs p ps × (name ≡ p .name)

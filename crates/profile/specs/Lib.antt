@@ -1,3 +1,4 @@
 pub mod Profile
 pub mod Table
+pub mod Lookup
 pub mod Theorems

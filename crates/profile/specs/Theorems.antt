@@ -7,11 +7,10 @@ use Prim.Native.Nat.{ℕ, _+_, _^_, _≤_, _<_}
 use lib.Dec.{T}
 use lib.ListN.{length}
 use Rattle.octets.specs.Bytes.{Bytes}
-use Rattle.octets.specs.Choice.{if_then_else_}
-use Rattle.octets.specs.Same.{same}
 use Rattle.names.specs.Name.{isRaisedName, profileLimit}
 use Rattle.names.specs.Order.{precedes}
 use Rattle.profile.specs.Profile.{Shape, version1, Profile, bodyLength}
+use Rattle.profile.specs.Lookup.{oneProfile, profileNamed}
 use Rattle.profile.specs.Table.{profileCount, TableReading, profiles, profilesFrom, tableOf, recordsBytes, tableBytes}
 
 -- a profile that a record of a shape can say
@@ -41,16 +40,6 @@ abbrev pub TablesWrittenBack : Type 0
 TablesWrittenBack =
     (bs : List ℕ) (ps : List Profile) → Bytes bs → tableOf bs ≡ profiles ps
     → (tableBytes ps ≡ bs) × (Ascending version1 [] ps × (length ps ≤ profileCount))
-
--- a look-up by name
-pub data ProfileLookup : Type 0 where
-  noProfile : ProfileLookup
-  oneProfile : Profile → ProfileLookup
-
--- the first profile of a name
-unfoldable pub profileNamed : List ℕ → List Profile → ProfileLookup
-profileNamed name [] = noProfile
-profileNamed name (p ∷ ps) = if same name (p .name) then oneProfile p else profileNamed name ps
 
 -- a profile, somewhere in a list
 pub record Occurs (p : Profile) (ps : List Profile) : Type 0 where

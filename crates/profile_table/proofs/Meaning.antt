@@ -9,7 +9,8 @@ use Rattle.octets.specs.Same.{same}
 use Rattle.octets.proofs.Choice.{choice₂}
 use Rattle.profile.specs.Profile.{version1, Profile, sumOf, recordBytes}
 use Rattle.profile.specs.Table.{profileAt, recordsBytes}
-use Rattle.profile.specs.Theorems.{Ascending, noProfile, oneProfile, profileNamed}
+use Rattle.profile.specs.Lookup.{noProfile, oneProfile, profileNamed}
+use Rattle.profile.specs.Theorems.{Ascending}
 use Rattle.profile.proofs.Fronts.{fronts}
 use Rattle.profile.proofs.Backs.{tables-written-back}
 use Rattle.profile_table.specs.Answer.{entry, foundFrom, foundIn}

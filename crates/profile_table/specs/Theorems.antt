@@ -6,7 +6,7 @@ use lib.ListN.{drop}
 use Rattle.octets.specs.Bytes.{Bytes}
 use Rattle.profile.specs.Profile.{version1, Profile}
 use Rattle.profile.specs.Table.{profiles, profileAt, tableOf}
-use Rattle.profile.specs.Theorems.{ProfileLookup, noProfile, oneProfile, profileNamed}
+use Rattle.profile.specs.Lookup.{ProfileLookup, noProfile, oneProfile, profileNamed}
 use Rattle.profile_table.specs.declared.Found.{Found}
 use Rattle.profile_table.specs.declared.Found.the-variants.{Present, Absent, Refused}
 use Rattle.profile_table.specs.Answer.{entry, foundIn}

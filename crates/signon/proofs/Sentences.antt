@@ -15,7 +15,8 @@ use Rattle.env.specs.Variable.{Variable, VAR, USERVAR, repeated, Lookup, absent
 use Rattle.names.specs.Name.{raised, isName, isRaisedName, profileLimit}
 use Rattle.names.proofs.Held.{raised-is-raised}
 use Rattle.profile.specs.Profile.{Shape, version1, Profile, enabled}
-use Rattle.profile.specs.Theorems.{WellFormed, Ascending, Occurs, ProfileLookup, noProfile, oneProfile, profileNamed}
+use Rattle.profile.specs.Lookup.{ProfileLookup, noProfile, oneProfile, profileNamed}
+use Rattle.profile.specs.Theorems.{WellFormed, Ascending, Occurs}
 use Rattle.profile.proofs.Members.{lookup-is-membership}
 use Rattle.password_check.specs.Gives.{seedLength}
 use Rattle.signon.specs.declared.Verdict.{Verdict}

@@ -7,8 +7,8 @@ use Rattle.octets.specs.Ascii.{ascii}
 use Rattle.octets.specs.Same.{same}
 use Rattle.env.specs.Variable.{Variable, VAR, USERVAR, Lookup, absent, present, lookup, valueOr}
 use Rattle.names.specs.Name.{raised}
-use Rattle.profile.specs.Profile.{Profile, enabled, desAllowed, desToken, shaToken}
-use Rattle.profile.specs.Theorems.{ProfileLookup, noProfile, oneProfile, profileNamed}
+use Rattle.profile.specs.Profile.{Profile, desAllowed, desToken, shaToken}
+use Rattle.profile.specs.Lookup.{ProfileLookup, noProfile, oneProfile, profileNamed}
 use Rattle.password_check.specs.Gives.{givesClear, givesDes, givesSha}
 
 -- the names of the three variables, with their kinds VAR and USERVAR

@@ -22,7 +22,8 @@ use Rattle.names.specs.Name.{raised, isName, isRaisedName, profileLimit}
 use Rattle.names.proofs.Held.{raised-is-raised}
 use Rattle.profile.specs.Profile.{version1, Profile, enabled, desAllowed, desToken, shaToken}
 use Rattle.profile.specs.Table.{TableReading, profiles, tableRefused, tableOf}
-use Rattle.profile.specs.Theorems.{Ascending, ProfileLookup, noProfile, oneProfile, profileNamed}
+use Rattle.profile.specs.Lookup.{ProfileLookup, noProfile, oneProfile, profileNamed}
+use Rattle.profile.specs.Theorems.{Ascending}
 use Rattle.profile.proofs.Backs.{tables-written-back}
 use Rattle.profile.proofs.Members.{lookup-is-membership}
 use Rattle.profile_table.specs.declared.TableCheck.{TableCheck}
