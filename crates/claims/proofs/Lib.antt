@@ -1,1 +1,6 @@
 pub mod Worked
+pub mod OneOf
+pub mod LineRefusals
+pub mod SessionRefusals
+pub mod PayloadRefusals
+pub mod SignonRefusals

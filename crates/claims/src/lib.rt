@@ -1,13 +1,19 @@
 // What is proved above single functions, held: each function here does nothing and promises theorems, so that the check of this crate needs the
-// proof of every one. What is claimed is said in `specs/`; start with `Demand2.antt` and `Demand3.antt`.
+// proof of every one. What is claimed is said in `specs/`; start with `Demand1.antt`, `Demand2.antt` and `Demand3.antt`.
 //
 // Entry points are the functions that a gateway's own code calls. `octets::put`, `octets::put_decimal` and their like, which answer by true or false or by a
 // place, are helpers of the core and none of them.
 ghost use Rattle.claims.specs.Demand3.{Demand3};
+ghost use Rattle.claims.specs.Demand1.{Demand1};
 ghost use Rattle.claims.specs.Demand2.{Demand2};
 ghost use Rattle.claims.specs.Ledger.{LedgerTotal};
 ghost use Rattle.claims.specs.Worked.{lines, AllHold};
 ghost use Rattle.claims.specs.Others.{Others};
+
+// The owner's demand 1.
+pub fn demand_1()
+    ensures { λ _. ⌜ Demand1 ⌝ }
+{}
 
 // The owner's demand 2.
 pub fn demand_2()

@@ -1,0 +1,246 @@
+-- Events and records of the line, and one side of an option: they refuse by their own numbers, and leave all as it was. Assumes nothing.
+use mathlib.Core.Path.{_≡_, refl, ap, subst}
+use mathlib.Core.Bool.{Bool, true, false, not, _||_}
+use mathlib.Core.List.{List, [], _∷_, _++_}
+use Prim.Native.Nat.{ℕ, suc}
+use lib.Dec.{T, eqb, ltb}
+use lib.ListN.{length, drop}
+use Rattle.octets.specs.Choice.{if_then_else_}
+use Rattle.octets.specs.Lent.{Outcome, outcome, overwrite}
+use Rattle.octets.specs.Promise.{writeFront}
+use Rattle.octets.proofs.Choice.{choice}
+use Rattle.refusal.specs.Refusal.{noRoom}
+use Rattle.telnet.specs.Event.{Event, run, command, negotiation, subnegotiation, carriedBytes, lead, payloadLimit, iac, se}
+use Rattle.telnet.specs.declared.Lead.{Lead}
+use Rattle.telnet.specs.declared.Lead.the-variants.{Faulty, Opens, Negotiates, Simple}
+use Rattle.telnet.specs.Write.{doubled, writable, written}
+use Rattle.telnet.specs.Read.{Front, noEvent, found, refused, undoubled, closed, afterSb, afterVerb, afterLead, afterIac, runOr, eventOf}
+use Rattle.telnet.specs.Whole.{Ending, well, refusal, Mode, data′, iacSeen, choosing, opening, payload, closing, failed}
+use Rattle.telnet.specs.Whole.{Step, goes, leads, grown, stepByte, stops, readingFrom, reading, ended}
+use Rattle.telnet.specs.Record.{Gathered, complete, noRecord, isEndOfRecord, withEvent, gathered, recordOf}
+use Rattle.telnet_reader.specs.Promise as Reader
+use Rattle.telnet_reader.specs.Promise.{lookAt, readAt}
+use Rattle.telnet_records.specs.Promise.{answerNoRecord, kept, recordAt}
+use Rattle.telnet_writer.specs.Promise.{unwritable, writeOf}
+use Rattle.option_rules.specs.declared.Command.{Command}
+use Rattle.option_rules.specs.declared.Command.the-variants.{On as on, Off as off}
+use Rattle.option_rules.specs.declared.Side.{Side}
+use Rattle.option_rules.specs.declared.Side.the-variants.{Off, On, WantOff, WantOffThenOn, WantOn, WantOnThenOff}
+use Rattle.option_rules.specs.Table.{Row, table, untouched, carried, rulesOf, stepBy, onReceive, onRequest}
+use Rattle.claims.specs.Refusals.{Refusal, noRefusal, refusedBy, oneOf, Refuses, byNumber, byReceipt, ofEvent, ofRecord, ofEventWritten}
+use Rattle.claims.proofs.OneOf.{more}
+use Rattle.claims.specs.Demand1.{line, RefusesBy, RefusesInto}
+
+-- what stands at the front of bytes
+abbrev FrontBy : Front → Type 0
+FrontBy noEvent = Unit {0}
+FrontBy (found e) = Unit {0}
+FrontBy (refused n) = T (oneOf line n)
+
+closed-by : (o : ℕ) (p bs : List ℕ) → FrontBy (closed o p bs)
+unfolding closed oneOf
+closed-by o p [] = tt
+closed-by o p (x ∷ []) = tt
+closed-by o p (x ∷ c ∷ rest) = choice FrontBy (eqb c se) (λ _. tt) (λ _. tt)
+
+sb-by : (bs : List ℕ) → FrontBy (afterSb bs)
+unfolding afterSb oneOf
+sb-by [] = tt
+sb-by (o ∷ bs) =
+    choice FrontBy (ltb payloadLimit (length (undoubled bs))) (λ _. tt)
+    (λ _. closed-by o (undoubled bs) (drop (length (doubled (undoubled bs))) bs))
+
+lead-by : (l : Lead) (c : ℕ) (bs : List ℕ) → FrontBy (afterLead l c bs)
+unfolding afterLead afterVerb oneOf
+lead-by Faulty c bs = tt
+lead-by Opens c bs = sb-by bs
+lead-by (Negotiates v) c [] = tt
+lead-by (Negotiates v) c (o ∷ bs) = tt
+lead-by Simple c bs = tt
+
+iac-by : (bs : List ℕ) → FrontBy (afterIac bs)
+unfolding afterIac oneOf
+iac-by [] = tt
+iac-by (c ∷ bs) = lead-by (lead c) c bs
+
+run-by : (ds : List ℕ) (f : Front) → FrontBy f → FrontBy (runOr ds f)
+unfolding runOr
+run-by [] f t = t
+run-by (d ∷ ds) f t = tt
+
+front-by : (bs : List ℕ) → FrontBy (eventOf bs)
+unfolding eventOf
+front-by [] = tt
+front-by (b ∷ bs) = run-by (undoubled (b ∷ bs)) (afterIac bs) (iac-by bs)
+
+answered-by : (at : ℕ) (f : Front) → FrontBy f → RefusesBy (5 ∷ line) (ofEvent (Reader.answered at f))
+unfolding Reader.answered
+answered-by at noEvent t = tt
+answered-by at (found e) t = tt
+answered-by at (refused n) t = (more 5 line n t, refl)
+
+pub looks : (s : List ℕ) (at : ℕ) → RefusesBy (5 ∷ line) (ofEvent (lookAt s at))
+unfolding lookAt oneOf
+looks s at =
+    choice (λ a. RefusesBy (5 ∷ line) (ofEvent a)) (ltb (length s) at) (λ _. (tt, refl))
+    (λ _. answered-by at (eventOf (drop at s)) (front-by (drop at s)))
+
+delivered-by : (at : ℕ) (f : Front) (out : List ℕ) → FrontBy f → RefusesInto (5 ∷ 4 ∷ line) ofEvent out (Reader.delivered at f out)
+unfolding Reader.delivered Reader.answered oneOf
+delivered-by at noEvent out t = tt
+delivered-by at (refused n) out t = (more 5 (4 ∷ line) n (more 4 line n t), refl)
+delivered-by at (found e) out t = choice (RefusesInto (5 ∷ 4 ∷ line) ofEvent out) (ltb (length out) (length (carriedBytes e))) (λ _. (tt, refl)) (λ _. tt)
+
+pub reads : (s : List ℕ) (at : ℕ) (out : List ℕ) → RefusesInto (5 ∷ 4 ∷ line) ofEvent out (readAt s at out)
+unfolding readAt oneOf
+reads s at out =
+    choice (RefusesInto (5 ∷ 4 ∷ line) ofEvent out) (ltb (length s) at) (λ _. (tt, refl))
+    (λ _. delivered-by at (eventOf (drop at s)) out (front-by (drop at s)))
+
+pub writes : (e : Event) (out : List ℕ) → RefusesInto (7 ∷ 3 ∷ 4 ∷ []) ofEventWritten out (writeOf e out)
+unfolding writeOf unwritable oneOf
+writes e out =
+    choice (RefusesInto (7 ∷ 3 ∷ 4 ∷ []) ofEventWritten out) (writable e)
+    (λ _. choice (RefusesInto (7 ∷ 3 ∷ 4 ∷ []) ofEventWritten out) (ltb (length out) (length (written e))) (λ _. (tt, refl)) (λ _. tt))
+    (λ _. (unwritten e, refl))
+  where
+    unwritten : (e : Event) → T (oneOf (7 ∷ 3 ∷ 4 ∷ []) (unwritable e))
+    unwritten (run d) = tt
+    unwritten (command c) = tt
+    unwritten (negotiation v o) = tt
+    unwritten (subnegotiation o p) = tt
+
+-- how a reading ends
+abbrev EndingBy : Ending → Type 0
+EndingBy well = Unit {0}
+EndingBy (refusal n) = T (oneOf line n)
+
+abbrev ModeBy : Mode → Type 0
+ModeBy (data′ r) = Unit {0}
+ModeBy (iacSeen r) = Unit {0}
+ModeBy (choosing v) = Unit {0}
+ModeBy opening = Unit {0}
+ModeBy (payload o p) = Unit {0}
+ModeBy (closing o p) = Unit {0}
+ModeBy (failed n) = T (oneOf line n)
+
+abbrev StepBy : Step → Type 0
+StepBy s = ModeBy (s .mode)
+
+leads-by : (es : List Event) (l : Lead) (c : ℕ) → StepBy (leads es l c)
+unfolding leads oneOf
+leads-by es Faulty c = tt
+leads-by es Opens c = tt
+leads-by es (Negotiates v) c = tt
+leads-by es Simple c = tt
+
+grown-by : (o : ℕ) (p : List ℕ) (b : ℕ) → StepBy (grown o p b)
+unfolding grown oneOf
+grown-by o p b = choice StepBy (ltb (length p) payloadLimit) (λ _. tt) (λ _. tt)
+
+step-by : (m : Mode) (b : ℕ) → ModeBy m → StepBy (stepByte m b)
+unfolding stepByte oneOf
+step-by (data′ r) b t = choice StepBy (eqb b iac) (λ _. tt) (λ _. tt)
+step-by (iacSeen r) b t = choice StepBy (eqb b iac) (λ _. tt) (λ _. leads-by (ended r) (lead b) b)
+step-by (choosing v) b t = tt
+step-by opening b t = tt
+step-by (payload o p) b t = choice StepBy (eqb b iac) (λ _. tt) (λ _. grown-by o p b)
+step-by (closing o p) b t = choice StepBy (eqb b iac) (λ _. grown-by o p b) (λ _. choice StepBy (eqb b se) (λ _. tt) (λ _. tt))
+step-by (failed n) b t = t
+
+stops-by : (m : Mode) → ModeBy m → EndingBy (stops m .ending)
+unfolding stops oneOf
+stops-by (data′ r) t = tt
+stops-by (iacSeen r) t = tt
+stops-by (choosing v) t = tt
+stops-by opening t = tt
+stops-by (payload o p) t = tt
+stops-by (closing o p) t = tt
+stops-by (failed n) t = t
+
+ending-by : (m : Mode) (bs : List ℕ) → ModeBy m → EndingBy (readingFrom m bs .ending)
+unfolding readingFrom
+ending-by m [] t = stops-by m t
+ending-by m (b ∷ bs) t = ending-by (stepByte m b .mode) bs (step-by m b t)
+
+abbrev GatheredBy : Gathered → Type 0
+GatheredBy (complete d n) = Unit {0}
+GatheredBy (noRecord how) = EndingBy how
+
+with-by : (e : Event) (g : Gathered) → GatheredBy g → GatheredBy (withEvent e g)
+unfolding withEvent
+with-by e (complete d n) t = tt
+with-by e (noRecord how) t = t
+
+gathered-by : (es : List Event) (how : Ending) → EndingBy how → GatheredBy (gathered es how)
+unfolding gathered
+gathered-by [] how t = t
+gathered-by (e ∷ es) how t = choice GatheredBy (isEndOfRecord e) (λ _. tt) (λ _. with-by e (gathered es how) (gathered-by es how t))
+
+kept-by : (at : ℕ) (g : Gathered) (out : List ℕ) → GatheredBy g → RefusesInto (5 ∷ 4 ∷ line) ofRecord out (kept at g out)
+unfolding kept answerNoRecord oneOf
+kept-by at (noRecord well) out t = tt
+kept-by at (noRecord (refusal n)) out t = (more 5 (4 ∷ line) n (more 4 line n t), refl)
+kept-by at (complete d n) out t = choice (RefusesInto (5 ∷ 4 ∷ line) ofRecord out) (ltb (length out) (length d)) (λ _. (tt, refl)) (λ _. tt)
+
+pub reads-records : (s : List ℕ) (at : ℕ) (out : List ℕ) → RefusesInto (5 ∷ 4 ∷ line) ofRecord out (recordAt s at out)
+unfolding recordAt recordOf reading oneOf
+reads-records s at out =
+    let bs = drop at s in
+    choice (RefusesInto (5 ∷ 4 ∷ line) ofRecord out) (ltb (length s) at) (λ _. (tt, refl))
+    (λ _. kept-by at (recordOf bs) out (gathered-by (reading bs .events) (reading bs .ending) (ending-by (data′ []) bs tt)))
+
+-- one side of an option, by the table or as one that is not carried
+abbrev ReceivesBy : (Side → Row) → Type 0
+ReceivesBy rules =
+    (s : Side) (accept : Bool) (c : Command) → Refuses [] s (onReceive rules s accept c .side) (byReceipt (onReceive rules s accept c .number))
+
+abbrev RequestsBy : (Side → Row) → Type 0
+RequestsBy rules = (s : Side) (c : Command) → Refuses (10 ∷ 11 ∷ 12 ∷ 13 ∷ []) s (onRequest rules s c .side) (byNumber (onRequest rules s c .number))
+
+table-receives : ReceivesBy table
+table-receives Off true on = tt
+table-receives Off false on = tt
+table-receives On accept on = tt
+table-receives WantOff accept on = tt
+table-receives WantOffThenOn accept on = tt
+table-receives WantOn accept on = tt
+table-receives WantOnThenOff accept on = tt
+table-receives Off accept off = tt
+table-receives On accept off = tt
+table-receives WantOff accept off = tt
+table-receives WantOffThenOn accept off = tt
+table-receives WantOn accept off = tt
+table-receives WantOnThenOff accept off = tt
+
+table-requests : RequestsBy table
+unfolding oneOf
+table-requests Off on = tt
+table-requests Off off = (tt, refl)
+table-requests On on = (tt, refl)
+table-requests On off = tt
+table-requests WantOff on = tt
+table-requests WantOff off = (tt, refl)
+table-requests WantOffThenOn on = (tt, refl)
+table-requests WantOffThenOn off = tt
+table-requests WantOn on = (tt, refl)
+table-requests WantOn off = tt
+table-requests WantOnThenOff on = tt
+table-requests WantOnThenOff off = (tt, refl)
+
+untouched-receives : ReceivesBy untouched
+untouched-receives s accept on = tt
+untouched-receives s accept off = tt
+
+untouched-requests : RequestsBy untouched
+unfolding oneOf
+untouched-requests s on = (tt, refl)
+untouched-requests s off = (tt, refl)
+
+pub receives : (o : ℕ) → ReceivesBy (rulesOf o)
+unfolding rulesOf
+receives o = choice ReceivesBy (carried o) (λ _. table-receives) (λ _. untouched-receives)
+
+pub requests : (o : ℕ) → RequestsBy (rulesOf o)
+unfolding rulesOf
+requests o = choice RequestsBy (carried o) (λ _. table-requests) (λ _. untouched-requests)

@@ -1,0 +1,206 @@
+-- Profile tables, the token maker, verdicts, response records, frames and the ledger: they refuse by their own numbers, and leave all as it was. Assumes
+-- nothing.
+use mathlib.Core.Path.{_≡_, refl}
+use mathlib.Core.Bool.{Bool, true, false, not, _||_}
+use mathlib.Core.List.{List, [], _∷_, _++_}
+use Prim.Native.Nat.{ℕ, zero, suc, _+_}
+use lib.Dec.{T, eqb, ltb}
+use lib.ListN.{length, drop}
+use Rattle.octets.specs.Choice.{if_then_else_}
+use Rattle.octets.specs.Lent.{Outcome, outcome, overwrite}
+use Rattle.octets.specs.Promise.{writeFront}
+use Rattle.octets.specs.Same.{same}
+use Rattle.octets.proofs.Choice.{choice}
+use Rattle.refusal.specs.Refusal.{badProfileName, badPassword, inboundFrame}
+use Rattle.names.specs.Name.{isName, profileLimit, deviceLimit, systemLimit}
+use Rattle.names.specs.Order.{precedes}
+use Rattle.env.specs.Read.{Reading, says, notRead, readingOf}
+use Rattle.profile.specs.Profile.{Shape, version1, Profile, bodyLength, recordBytes}
+use Rattle.profile.specs.Table.{nameAt, nameLengthAt, profileAt, isRecord, tableVersion, profileCount, TableReading, profiles, tableRefused, addProfile, unlessEnd, profilesFrom, tableOf}
+use Rattle.profile_table.specs.Answer.{entry, checked, foundFrom, foundIn}
+use Rattle.profile_maker.specs.Made.{Making, madeProfile}
+use Rattle.profile_maker.specs.Promise.{makeInto}
+use Rattle.password_des.specs.declared.Block.{Block}
+use Rattle.password_des.specs.Answer.{desPasswordLimit, desToken, desSubstitute}
+use Rattle.password_sha.specs.declared.Hash.{Hash}
+use Rattle.password_sha.specs.Sha.{isPassword}
+use Rattle.password_sha.specs.Answer.{noHash, shaToken, shaSubstitute}
+use Rattle.password_check.specs.Gives.{seedLength}
+use Rattle.signon.specs.declared.Verdict.{Verdict}
+use Rattle.signon.specs.Verdict.{answerBy, answerOf}
+use Rattle.startup.specs.Response.{responseOf}
+use Rattle.startup_record.specs.Promise.{respondInto}
+use Rattle.print_frame.specs.declared.Direction.{Direction}
+use Rattle.print_frame.specs.declared.Direction.the-variants.{Outbound, Inbound}
+use Rattle.print_frame.specs.declared.Operation.{Operation}
+use Rattle.print_frame.specs.declared.Operation.the-variants.{Print, Clear}
+use Rattle.print_frame.specs.declared.FrameAnswer.{FrameAnswer}
+use Rattle.print_frame.specs.declared.FrameAnswer.the-variants.{Read, Refused}
+use Rattle.print_frame.specs.Frame.{byte, identifier, dataFlow, structureLength, headerLength, dataPlace, isFlow, isReserved, isOperation, said, headerOf, frameOf}
+use Rattle.print_ledger.specs.declared.Ledger.{Ledger}
+use Rattle.print_ledger.specs.declared.Ledger.the-variants.{Idle, Holding}
+use Rattle.print_ledger.specs.declared.Receipt.the-variants.{Refused as NotTaken}
+use Rattle.print_ledger.specs.declared.Taken.{Taken}
+use Rattle.print_ledger.specs.declared.Completed.{Completed}
+use Rattle.print_ledger.specs.Ledger.{afterFrame, printed, cleared, taken, answered, takeFrame, printComplete, completeInto}
+use Rattle.claims.specs.Refusals.{Refusal, refusedBy, oneOf, Refuses, byNumber, ofBlock, ofCheck, ofFound, ofMade, ofSignon, ofResponse, ofFrame, ofReceipt, ofCompletion}
+use Rattle.claims.specs.Demand1.{payload, frame, table, RefusesBy, RefusesInto}
+use Rattle.claims.proofs.OneOf.{more, behind}
+use Rattle.claims.proofs.PayloadRefusals.{ReadingBy, reading-by}
+
+-- what a table says
+abbrev TableBy : TableReading → Type 0
+TableBy (profiles ps) = Unit {0}
+TableBy (tableRefused n) = T (oneOf table n)
+
+add-by : (p : Profile) (r : TableReading) → TableBy r → TableBy (addProfile p r)
+unfolding addProfile
+add-by p (profiles ps) t = tt
+add-by p (tableRefused n) t = t
+
+end-by : (bs : List ℕ) (r : TableReading) → TableBy r → TableBy (unlessEnd bs r)
+unfolding unlessEnd
+end-by [] r t = tt
+end-by (b ∷ bs) r t = t
+
+records-by : (s : Shape) (room : ℕ) (before bs : List ℕ) → TableBy (profilesFrom s room before bs)
+unfolding profilesFrom oneOf
+records-by s zero before bs = end-by bs _ (choice TableBy (isRecord s bs) (λ _. tt) (λ _. tt))
+records-by s (suc room) before bs =
+    end-by bs _ (choice TableBy (isRecord s bs)
+    (λ _. choice TableBy (precedes before (nameAt bs))
+    (λ _. add-by (profileAt s bs) _ (records-by s room (nameAt bs) (drop (2 + bodyLength s (nameLengthAt bs)) bs)))
+    (λ _. tt))
+    (λ _. tt))
+
+table-by : (t : List ℕ) → TableBy (tableOf t)
+unfolding tableOf oneOf
+table-by [] = tt
+table-by (v ∷ bs) = choice TableBy (eqb v tableVersion) (λ _. records-by version1 profileCount [] bs) (λ _. tt)
+
+checked-by : (r : TableReading) → TableBy r → RefusesBy table (ofCheck (checked r))
+unfolding checked
+checked-by (profiles ps) t = tt
+checked-by (tableRefused n) t = (t, refl)
+
+pub checks : (t : List ℕ) → RefusesBy table (ofCheck (checked (tableOf t)))
+checks t = checked-by (tableOf t) (table-by t)
+
+found-by : (at : ℕ) (name : List ℕ) (ps : List Profile) → RefusesBy table (ofFound (foundFrom at name ps))
+unfolding foundFrom
+found-by at name [] = tt
+found-by at name (p ∷ ps) =
+    choice (λ f. RefusesBy table (ofFound f)) (same name (p .name)) (λ _. tt) (λ _. found-by (at + length (recordBytes p)) name ps)
+
+looked-by : (name : List ℕ) (r : TableReading) → TableBy r → RefusesBy table (ofFound (foundIn name r))
+unfolding foundIn
+looked-by name (profiles ps) t = found-by 1 name ps
+looked-by name (tableRefused n) t = (t, refl)
+
+pub finds : (t name : List ℕ) → RefusesBy table (ofFound (foundIn name (tableOf t)))
+finds t name = looked-by name (tableOf t) (table-by t)
+
+pub makes : (m : Making) (out : List ℕ) → RefusesInto (33 ∷ 34 ∷ 4 ∷ []) ofMade out (makeInto m out)
+unfolding makeInto writeFront oneOf
+makes m out =
+    choice (RefusesInto (33 ∷ 34 ∷ 4 ∷ []) ofMade out) (not (isName profileLimit (m .name))) (λ _. (tt, refl))
+    (λ _. choice (RefusesInto (33 ∷ 34 ∷ 4 ∷ []) ofMade out) (not (isPassword (m .password))) (λ _. (tt, refl))
+    (λ _. choice (RefusesInto (33 ∷ 34 ∷ 4 ∷ []) ofMade out) (ltb (length out) (length (recordBytes (madeProfile m)))) (λ _. (tt, refl)) (λ _. tt)))
+
+-- tokens and substitutes
+abbrev BlockBy : List ℕ → Block → Type 0
+BlockBy numbers b = RefusesBy numbers (ofBlock b)
+
+abbrev HashBy : List ℕ → Hash → Type 0
+HashBy numbers h = RefusesBy numbers (byNumber (h .refusal))
+
+pub des-tokens : (name password : List ℕ) → BlockBy (33 ∷ 34 ∷ []) (desToken name password)
+unfolding desToken oneOf
+des-tokens name password =
+    choice (BlockBy (33 ∷ 34 ∷ [])) (not (isName profileLimit name)) (λ _. (tt, refl))
+    (λ _. choice (BlockBy (33 ∷ 34 ∷ [])) (not (isName desPasswordLimit password)) (λ _. (tt, refl)) (λ _. tt))
+
+pub sha-tokens : (name password : List ℕ) → HashBy (33 ∷ 34 ∷ []) (shaToken name password)
+unfolding shaToken oneOf
+sha-tokens name password =
+    let name33 : HashBy (33 ∷ 34 ∷ []) (noHash badProfileName) = (tt, refl) in
+    let password34 : HashBy (33 ∷ 34 ∷ []) (noHash badPassword) = (tt, refl) in
+    choice (HashBy (33 ∷ 34 ∷ [])) (not (isName profileLimit name)) (λ _. name33)
+    (λ _. choice (HashBy (33 ∷ 34 ∷ [])) (not (isPassword password)) (λ _. password34) (λ _. tt))
+
+pub des-substitutes : (token : ℕ) (name : List ℕ) (server client : ℕ) → BlockBy (33 ∷ []) (desSubstitute token name server client)
+unfolding desSubstitute oneOf
+des-substitutes token name server client = choice (BlockBy (33 ∷ [])) (not (isName profileLimit name)) (λ _. (tt, refl)) (λ _. tt)
+
+pub sha-substitutes : (token name : List ℕ) (server client : ℕ) → HashBy (33 ∷ []) (shaSubstitute token name server client)
+unfolding shaSubstitute oneOf
+sha-substitutes token name server client =
+    let name33 : HashBy (33 ∷ []) (noHash badProfileName) = (tt, refl) in
+    choice (HashBy (33 ∷ [])) (not (isName profileLimit name)) (λ _. name33) (λ _. tt)
+
+-- a verdict, by the table and the payload
+answered-by : (seed : List ℕ) (t : TableReading) (r : Reading) → TableBy t → ReadingBy r → RefusesBy (35 ∷ table ++ payload) (ofSignon (answerBy seed t r))
+unfolding answerBy
+answered-by seed (tableRefused n) r t q = (more 35 (table ++ payload) n (behind table payload n t), refl)
+answered-by seed (profiles ps) (notRead n) t q = (more 35 (table ++ payload) n (more 30 _ n (more 31 _ n (more 32 payload n q))), refl)
+answered-by seed (profiles ps) (says first vs) t q = tt
+
+pub judges : (seed t p : List ℕ) → RefusesBy (35 ∷ table ++ payload) (ofSignon (answerOf seed t p))
+unfolding answerOf oneOf
+judges seed t p =
+    choice (λ a. RefusesBy (35 ∷ table ++ payload) (ofSignon a)) (eqb (length seed) seedLength)
+    (λ _. answered-by seed (tableOf t) (readingOf p) (table-by t) (reading-by p)) (λ _. (tt, refl))
+
+pub responds : (fault : Bool) (v : Verdict) (system device out : List ℕ) → RefusesInto (36 ∷ 4 ∷ []) ofResponse out (respondInto fault v system device out)
+unfolding respondInto writeFront oneOf
+responds fault v system device out =
+    choice (RefusesInto (36 ∷ 4 ∷ []) ofResponse out) (not (isName deviceLimit device)) (λ _. (tt, refl))
+    (λ _. choice (RefusesInto (36 ∷ 4 ∷ []) ofResponse out) (not (isName systemLimit system)) (λ _. (tt, refl))
+    (λ _. choice (RefusesInto (36 ∷ 4 ∷ []) ofResponse out) (ltb (length out) (length (responseOf fault v system device))) (λ _. (tt, refl)) (λ _. tt)))
+
+-- frames
+abbrev FrameBy : FrameAnswer → Type 0
+FrameBy a = RefusesBy frame (ofFrame a)
+
+pub reads-frames : (f : List ℕ) → FrameBy (frameOf f)
+unfolding frameOf headerOf oneOf
+reads-frames f =
+    choice FrameBy (ltb (length f) 10 || not (eqb (structureLength f) (length f))) (λ _. (tt, refl))
+    (λ _. choice FrameBy (not (eqb (identifier f) 0x12A0)) (λ _. (tt, refl))
+    (λ _. choice FrameBy (not (isFlow (dataFlow f))) (λ _. (tt, refl))
+    (λ _. choice FrameBy (ltb (headerLength f) 4 || ltb (structureLength f) (dataPlace f)) (λ _. (tt, refl))
+    (λ _. choice FrameBy (isReserved (byte f 7) (byte f 8)) (λ _. (tt, refl))
+    (λ _. choice FrameBy (not (isOperation (byte f 9))) (λ _. (tt, refl)) (λ _. tt))))))
+
+-- the ledger
+abbrev TakenBy : Ledger → Taken → Type 0
+TakenBy l t = Refuses (52 ∷ 50 ∷ frame) l (t .ledger) (ofReceipt (t .receipt))
+
+-- by what a frame asks
+by-direction : (l : Ledger) (d : Direction) (o : Operation) → TakenBy l (elim d [
+  | Inbound ↦ afterFrame l (NotTaken inboundFrame)
+  | Outbound ↦ elim o [ Print ↦ printed l | Clear ↦ cleared l ]
+])
+unfolding oneOf
+by-direction l Inbound o = (tt, refl)
+by-direction Idle Outbound Print = tt
+by-direction Holding Outbound Print = (tt, refl)
+by-direction Idle Outbound Clear = tt
+by-direction Holding Outbound Clear = tt
+
+taken-by : (l : Ledger) (a : FrameAnswer) → FrameBy a → TakenBy l (answered l a)
+unfolding oneOf
+taken-by l (Refused n) t = (more 52 (50 ∷ frame) n (more 50 frame n (t .0)), refl)
+taken-by l (Read f) t = by-direction l (f .direction) (f .operation)
+
+pub takes : (l : Ledger) (f : List ℕ) → TakenBy l (takeFrame l f)
+unfolding takeFrame
+takes l f = taken-by l (frameOf f) (reads-frames f)
+
+abbrev CompletedBy : Ledger → List ℕ → Outcome Completed → Type 0
+CompletedBy l out o = Refuses (51 ∷ 4 ∷ []) {L = Ledger × List ℕ} (l, out) (o .answer .ledger, o .lent) (ofCompletion (o .answer .completion))
+
+pub completes : (l : Ledger) (out : List ℕ) → CompletedBy l out (completeInto l out)
+unfolding completeInto oneOf
+completes Idle out = (tt, refl)
+completes Holding out = choice (CompletedBy Holding out) (ltb (length out) (length printComplete)) (λ _. (tt, refl)) (λ _. tt)

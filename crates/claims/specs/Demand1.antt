@@ -1,0 +1,96 @@
+-- The owner's demand 1: "Every public entry point takes whatever bytes arrive, comes to an end, and refuses bad input by a number from our list. A refusal
+-- leaves every lent buffer exactly as it was found." That it takes whatever arrives and ends is the checker's own word: no entry point has a `requires`, and
+-- every function is proved to return. What is said here is the second half, entry point by entry point, over the definitions that their promises equal: by
+-- which of the specification's numbers each may refuse, and that it then leaves every buffer, list and state as it was.
+use Prim.Native.Nat.{ℕ}
+use mathlib.Core.Bool.{Bool}
+use mathlib.Core.List.{List, [], _∷_, _++_}
+use Rattle.octets.specs.Lent.{Outcome}
+use Rattle.telnet.specs.Event.{Event}
+use Rattle.telnet_reader.specs.Promise.{lookAt, readAt}
+use Rattle.telnet_records.specs.Promise.{recordAt}
+use Rattle.telnet_writer.specs.Promise.{writeOf}
+use Rattle.option_rules.specs.declared.Command.{Command}
+use Rattle.option_rules.specs.declared.Side.{Side}
+use Rattle.option_rules.specs.Table.{rulesOf, onReceive, onRequest}
+use Rattle.option_sides.specs.declared.Whose.{Whose}
+use Rattle.option_sides.specs.declared.Sides.{Sides}
+use Rattle.option_sides.specs.Session.{received, requested}
+use Rattle.telnet.specs.declared.Verb.{Verb}
+use Rattle.env.specs.declared.VariableRecord.{VariableRecord}
+use Rattle.env_delivery.specs.Promise.{readInto}
+use Rattle.env_list.specs.Reading.{readRecords}
+use Rattle.env_writer.specs.Promise.{writeInto}
+use Rattle.print_frame.specs.Frame.{frameOf}
+use Rattle.print_ledger.specs.declared.Ledger.{Ledger}
+use Rattle.print_ledger.specs.Ledger.{takeFrame, completeInto}
+use Rattle.profile.specs.Table.{tableOf}
+use Rattle.profile_table.specs.Answer.{checked, foundIn}
+use Rattle.password_des.specs.Answer.{desToken, desSubstitute}
+use Rattle.password_sha.specs.Answer.{shaToken, shaSubstitute}
+use Rattle.profile_maker.specs.Made.{Making}
+use Rattle.profile_maker.specs.Promise.{makeInto}
+use Rattle.signon.specs.declared.Verdict.{Verdict}
+use Rattle.signon.specs.Verdict.{answerOf}
+use Rattle.startup_record.specs.Promise.{respondInto}
+use Rattle.claims.specs.Refusals.{Refusal, Refuses, byNumber, byReceipt, ofEvent, ofRecord, ofEventWritten, ofPayload, ofPayloadWritten, ofFrame, ofReceipt, ofCompletion}
+use Rattle.claims.specs.Refusals.{ofBlock, ofCheck, ofFound, ofMade, ofSignon, ofResponse}
+
+-- the numbers of "Refusal numbers", by subject: those of the line, of a payload, of a frame, of a table
+abbrev pub line : List ℕ
+line = 1 ∷ 2 ∷ 3 ∷ 6 ∷ []
+
+abbrev pub payload : List ℕ
+payload = 3 ∷ 20 ∷ 21 ∷ 22 ∷ 23 ∷ 24 ∷ 25 ∷ []
+
+abbrev pub frame : List ℕ
+frame = 40 ∷ 41 ∷ 42 ∷ 43 ∷ 44 ∷ 45 ∷ []
+
+abbrev pub table : List ℕ
+table = 30 ∷ 31 ∷ 32 ∷ []
+
+-- by one of these numbers, where nothing is lent
+abbrev pub RefusesBy : List ℕ → Refusal → Type 0
+RefusesBy numbers r = Refuses numbers {L = Unit {0}} tt tt r
+
+-- an outcome: by one of these numbers, with the buffer as it was
+abbrev pub RefusesInto : {A : Type 0} → List ℕ → (A → Refusal) → List ℕ → Outcome A → Type 0
+RefusesInto numbers of out o = Refuses numbers out (o .lent) (of (o .answer))
+
+pub record Demand1 : Type 0 where
+  -- events and records of the line: `look`, `read`, `read_record`, `write`
+  pub look : (s : List ℕ) (at : ℕ) → RefusesBy (5 ∷ line) (ofEvent (lookAt s at))
+  pub read : (s : List ℕ) (at : ℕ) (out : List ℕ) → RefusesInto (5 ∷ 4 ∷ line) ofEvent out (readAt s at out)
+  pub readRecord : (s : List ℕ) (at : ℕ) (out : List ℕ) → RefusesInto (5 ∷ 4 ∷ line) ofRecord out (recordAt s at out)
+  pub write : (e : Event) (out : List ℕ) → RefusesInto (7 ∷ 3 ∷ 4 ∷ []) ofEventWritten out (writeOf e out)
+  -- one side of an option: a receipt refuses nothing, a request hands the state back
+  pub receive : (o : ℕ) (s : Side) (accept : Bool) (c : Command) → Refuses [] s (onReceive (rulesOf o) s accept c .side) (byReceipt (onReceive (rulesOf o) s accept c .number))
+  pub request : (o : ℕ) (s : Side) (c : Command) → Refuses (10 ∷ 11 ∷ 12 ∷ 13 ∷ []) s (onRequest (rulesOf o) s c .side) (byNumber (onRequest (rulesOf o) s c .number))
+  -- and so do the ten sides of a session
+  pub sessionReceive : (s : Sides) (v : Verb) (o : ℕ) (accept : Bool) → Refuses [] s (received s v o accept .sides) (byReceipt (received s v o accept .number))
+  pub sessionRequest : (s : Sides) (w : Whose) (o : ℕ) (c : Command)
+      → Refuses (10 ∷ 11 ∷ 12 ∷ 13 ∷ []) s (requested s w o c .sides) (byNumber (requested s w o c .number))
+  -- environment strings: `env_reader::read`, `env_list::read_records`, `env_writer::write`
+  pub readPayload : (p bytes numbers : List ℕ)
+      → Refuses (4 ∷ payload) {L = List ℕ × List ℕ} (bytes, numbers) (readInto p bytes numbers .bytes, readInto p bytes numbers .numbers) (ofPayload (readInto p bytes numbers .answer))
+  pub readRecords : (p bytes : List ℕ) (list : List VariableRecord)
+      → Refuses (4 ∷ payload) {L = List ℕ × List VariableRecord} (bytes, list) (readRecords p bytes list .answer .lent, readRecords p bytes list .records) (ofPayload (readRecords p bytes list .answer .answer))
+  pub writePayload : (first : ℕ) (bytes numbers out : List ℕ)
+      → RefusesInto (20 ∷ 27 ∷ 21 ∷ 24 ∷ 25 ∷ 3 ∷ 4 ∷ []) ofPayloadWritten out (writeInto first bytes numbers out)
+  -- profile tables: `check`, `find`, `make_record`
+  pub check : (t : List ℕ) → RefusesBy table (ofCheck (checked (tableOf t)))
+  pub find : (t name : List ℕ) → RefusesBy table (ofFound (foundIn name (tableOf t)))
+  pub make : (m : Making) (out : List ℕ) → RefusesInto (33 ∷ 34 ∷ 4 ∷ []) ofMade out (makeInto m out)
+  -- tokens and substitutes: `des_token`, `sha_token`, `des_substitute`, `sha_substitute`
+  pub desToken : (name password : List ℕ) → RefusesBy (33 ∷ 34 ∷ []) (ofBlock (desToken name password))
+  pub shaToken : (name password : List ℕ) → RefusesBy (33 ∷ 34 ∷ []) (byNumber (shaToken name password .refusal))
+  pub desSubstitute : (token : ℕ) (name : List ℕ) (server client : ℕ) → RefusesBy (33 ∷ []) (ofBlock (desSubstitute token name server client))
+  pub shaSubstitute : (token name : List ℕ) (server client : ℕ) → RefusesBy (33 ∷ []) (byNumber (shaSubstitute token name server client .refusal))
+  -- sign-on and start-up: `verdict`, `response`
+  pub verdict : (seed t p : List ℕ) → RefusesBy (35 ∷ table ++ payload) (ofSignon (answerOf seed t p))
+  pub response : (fault : Bool) (v : Verdict) (system device out : List ℕ) → RefusesInto (36 ∷ 4 ∷ []) ofResponse out (respondInto fault v system device out)
+  -- printing: `read_frame`, `take_frame`, `complete`; a refused frame or completion leaves the ledger as it was
+  pub readFrame : (f : List ℕ) → RefusesBy frame (ofFrame (frameOf f))
+  pub takeFrame : (l : Ledger) (f : List ℕ) → Refuses (52 ∷ 50 ∷ frame) l (takeFrame l f .ledger) (ofReceipt (takeFrame l f .receipt))
+  pub complete : (l : Ledger) (out : List ℕ)
+      → Refuses (51 ∷ 4 ∷ []) {L = Ledger × List ℕ} (l, out) (completeInto l out .answer .ledger, completeInto l out .lent) (ofCompletion (completeInto l out .answer .completion))
