@@ -22,12 +22,13 @@ use Rattle.telnet_reader.specs.Promise as Reader
 use Rattle.telnet_reader.specs.Promise.{lookAt, readAt}
 use Rattle.telnet_records.specs.Promise.{answerNoRecord, kept, recordAt}
 use Rattle.telnet_writer.specs.Promise.{unwritable, writeOf}
+use Rattle.telnet_line.specs.Promise.{putFront}
 use Rattle.option_rules.specs.declared.Command.{Command}
 use Rattle.option_rules.specs.declared.Command.the-variants.{On as on, Off as off}
 use Rattle.option_rules.specs.declared.Side.{Side}
 use Rattle.option_rules.specs.declared.Side.the-variants.{Off, On, WantOff, WantOffThenOn, WantOn, WantOnThenOff}
 use Rattle.option_rules.specs.Table.{Row, table, untouched, carried, rulesOf, stepBy, onReceive, onRequest}
-use Rattle.claims.specs.Refusals.{Refusal, noRefusal, refusedBy, oneOf, Refuses, byNumber, byReceipt, ofEvent, ofRecord, ofEventWritten}
+use Rattle.claims.specs.Refusals.{Refusal, noRefusal, refusedBy, oneOf, Refuses, byNumber, byReceipt, ofEvent, ofRecord, ofEventWritten, ofListed}
 use Rattle.claims.proofs.OneOf.{more}
 use Rattle.claims.specs.Demand1.{line, RefusesBy, RefusesInto}
 
@@ -109,6 +110,10 @@ writes e out =
     unwritten (command c) = tt
     unwritten (negotiation v o) = tt
     unwritten (subnegotiation o p) = tt
+
+pub lists : (words out : List ℕ) → RefusesInto (4 ∷ []) ofListed out (putFront words out)
+unfolding putFront oneOf
+lists words out = choice (RefusesInto (4 ∷ []) ofListed out) (ltb (length out) (length words)) (λ _. (tt, refl)) (λ _. tt)
 
 -- how a reading ends
 abbrev EndingBy : Ending → Type 0

@@ -3,12 +3,9 @@ use mathlib.Core.Path.{_≡_, refl, ap, _∙_}
 use mathlib.Core.Bool.{Bool}
 use mathlib.Core.List.{List, [], _∷_}
 use Prim.Native.Nat.{ℕ}
-use lib.Dec.{eqb}
-use Rattle.octets.specs.Choice.{if_then_else_}
-use Rattle.octets.proofs.Choice.{choice}
 use Rattle.option_rules.specs.declared.Command.{Command}
 use Rattle.option_rules.specs.declared.Side.{Side}
-use Rattle.option_rules.specs.Table.{binary, suppressGoAhead, terminalType, endOfRecord, newEnviron, choose}
+use Rattle.option_rules.specs.Table.{choose}
 use Rattle.option_sides.specs.declared.Whose.{Whose}
 use Rattle.option_sides.specs.declared.Whose.the-variants.{Ours, Other}
 use Rattle.option_sides.specs.declared.Pair.{Pair}
@@ -16,19 +13,14 @@ use Rattle.option_sides.specs.declared.Sides.{Sides}
 use Rattle.telnet.specs.declared.Verb.{Verb}
 use Rattle.option_sides.specs.Verbs.{toldBy}
 use Rattle.option_sides.specs.Session.{ofPair, inPair, pairAt, withPair, sideAt, withSide, received, requested}
+use Rattle.option_sides.proofs.Setting.{by-option}
 use Rattle.claims.specs.Refusals.{Refusal, noRefusal, refusedBy, Refuses, byNumber, byReceipt}
 use Rattle.claims.proofs.LineRefusals.{receives, requests}
 
 -- a side set to what it is
 own-pair : (s : Sides) (o : ℕ) → withPair s o (pairAt s o) ≡ s
 unfolding withPair pairAt choose
-own-pair s o =
-    choice (λ (u : Sides). u ≡ s) (eqb o binary) (λ h. rw h) λ nb.
-    choice (λ (u : Sides). u ≡ s) (eqb o suppressGoAhead) (λ h. rw (nb, h)) λ ng.
-    choice (λ (u : Sides). u ≡ s) (eqb o terminalType) (λ h. rw (nb, ng, h)) λ nt.
-    choice (λ (u : Sides). u ≡ s) (eqb o endOfRecord) (λ h. rw (nb, ng, nt, h)) λ nr.
-    choice (λ (u : Sides). u ≡ s) (eqb o newEnviron) (λ h. rw (nb, ng, nt, nr, h)) λ ne.
-    refl
+own-pair s o = by-option (λ (u : Sides). u ≡ s) o (λ e. rw e) (λ e. rw e) (λ e. rw e) (λ e. rw e) (λ e. rw e) (λ _. refl)
 
 own-in : (p : Pair) (w : Whose) → inPair p w (ofPair p w) ≡ p
 own-in p Ours = refl

@@ -10,6 +10,7 @@ use Rattle.telnet.specs.Event.{Event}
 use Rattle.telnet_reader.specs.Promise.{lookAt, readAt}
 use Rattle.telnet_records.specs.Promise.{recordAt}
 use Rattle.telnet_writer.specs.Promise.{writeOf}
+use Rattle.telnet_line.specs.Promise.{putFront}
 use Rattle.option_rules.specs.declared.Command.{Command}
 use Rattle.option_rules.specs.declared.Side.{Side}
 use Rattle.option_rules.specs.Table.{rulesOf, onReceive, onRequest}
@@ -33,7 +34,7 @@ use Rattle.profile_maker.specs.Promise.{makeInto}
 use Rattle.signon.specs.declared.Verdict.{Verdict}
 use Rattle.signon.specs.Verdict.{answerOf}
 use Rattle.startup_record.specs.Promise.{respondInto}
-use Rattle.claims.specs.Refusals.{Refusal, Refuses, byNumber, byReceipt, ofEvent, ofRecord, ofEventWritten, ofPayload, ofPayloadWritten, ofFrame, ofReceipt, ofCompletion}
+use Rattle.claims.specs.Refusals.{Refusal, Refuses, byNumber, byReceipt, ofEvent, ofRecord, ofEventWritten, ofListed, ofPayload, ofPayloadWritten, ofFrame, ofReceipt, ofCompletion}
 use Rattle.claims.specs.Refusals.{ofBlock, ofCheck, ofFound, ofMade, ofSignon, ofResponse}
 
 -- the numbers of "Refusal numbers", by subject: those of the line, of a payload, of a frame, of a table
@@ -63,6 +64,8 @@ pub record Demand1 : Type 0 where
   pub read : (s : List ℕ) (at : ℕ) (out : List ℕ) → RefusesInto (5 ∷ 4 ∷ line) ofEvent out (readAt s at out)
   pub readRecord : (s : List ℕ) (at : ℕ) (out : List ℕ) → RefusesInto (5 ∷ 4 ∷ line) ofRecord out (recordAt s at out)
   pub write : (e : Event) (out : List ℕ) → RefusesInto (7 ∷ 3 ∷ 4 ∷ []) ofEventWritten out (writeOf e out)
+  -- the listing of a stream, or one line of it: `list`, `line`
+  pub list : (words out : List ℕ) → RefusesInto (4 ∷ []) ofListed out (putFront words out)
   -- one side of an option: a receipt refuses nothing, a request hands the state back
   pub receive : (o : ℕ) (s : Side) (accept : Bool) (c : Command) → Refuses [] s (onReceive (rulesOf o) s accept c .side) (byReceipt (onReceive (rulesOf o) s accept c .number))
   pub request : (o : ℕ) (s : Side) (c : Command) → Refuses (10 ∷ 11 ∷ 12 ∷ 13 ∷ []) s (onRequest (rulesOf o) s c .side) (byNumber (onRequest (rulesOf o) s c .number))

@@ -12,6 +12,8 @@ use Rattle.telnet_records.specs.declared.Record.{Record}
 use Rattle.telnet_records.specs.declared.Record.the-variants.{Complete, Unfinished, Refused as RecordRefused}
 use Rattle.telnet_writer.specs.declared.Written.{Written as EventWritten}
 use Rattle.telnet_writer.specs.declared.Written.the-variants.{Wrote as WroteEvent, Refused as EventNotWritten}
+use Rattle.telnet_line.specs.declared.Listed.{Listed}
+use Rattle.telnet_line.specs.declared.Listed.the-variants.{Wrote as WroteLines, Refused as NotListed}
 use Rattle.env_delivery.specs.declared.Answer.{Answer as PayloadAnswer}
 use Rattle.env_delivery.specs.declared.Answer.the-variants.{Read as ReadPayload, Refused as PayloadRefused}
 use Rattle.env_writer.specs.declared.Written.{Written as PayloadWritten}
@@ -61,6 +63,10 @@ ofRecord (RecordRefused n) = refusedBy n
 abbrev pub ofEventWritten : EventWritten → Refusal
 ofEventWritten (WroteEvent n) = noRefusal
 ofEventWritten (EventNotWritten n) = refusedBy n
+
+abbrev pub ofListed : Listed → Refusal
+ofListed (WroteLines n) = noRefusal
+ofListed (NotListed n) = refusedBy n
 
 abbrev pub ofPayload : PayloadAnswer → Refusal
 ofPayload (ReadPayload f c u) = noRefusal

@@ -15,6 +15,7 @@ use Rattle.option_rules.specs.Table.{binary, suppressGoAhead, terminalType, end
 use Rattle.option_sides.specs.Verbs.{HeardAsSaid}
 use Rattle.option_sides.specs.Session.{ofPair, inPair, pairAt, withPair, sideAt, withSide, SetsOne}
 use Rattle.octets.specs.Choice.{if_then_else_}
+use Rattle.octets.proofs.Choice.{choice}
 
 pub heard-as-said : HeardAsSaid
 heard-as-said Ours on = refl
@@ -22,12 +23,8 @@ heard-as-said Ours off = refl
 heard-as-said Other on = refl
 heard-as-said Other off = refl
 
-choice : {A : Type 0} (P : A → Type 0) (t : Bool) {x y : A} → (t ≡ true → P x) → (t ≡ false → P y) → P (if t then x else y)
-choice P true f g = f refl
-choice P false f g = g refl
-
 -- what holds for each of the five, and where it is none of them, holds for the one that is chosen
-by-option : {A : Type 0} (P : A → Type 0) (o : ℕ) {b g t r e n : A} → (o ≡ binary → P b) → (o ≡ suppressGoAhead → P g)
+pub by-option : {A : Type 0} (P : A → Type 0) (o : ℕ) {b g t r e n : A} → (o ≡ binary → P b) → (o ≡ suppressGoAhead → P g)
     → (o ≡ terminalType → P t) → (o ≡ endOfRecord → P r) → (o ≡ newEnviron → P e) → (carried o ≡ false → P n) → P (choose o b g t r e n)
 unfolding choose carried
 by-option P o fb fg ft fr fe fn =

@@ -13,6 +13,11 @@ ghost use Rattle.profile_table.specs.near.Steps.{Stepped, recordsBehind,
 // A table has at most so many profiles.
 pub const PROFILE_COUNT: usize = 500;
 
+// How long a record is besides its name, and what its length says of that.
+const RECORD_LENGTH: usize = 32;
+
+const BODY_LENGTH: usize = 30;
+
 // How many profiles a table has, or the number of a refusal.
 pub enum TableCheck {
     Profiles(usize),
@@ -57,10 +62,10 @@ fn is_record(bytes: &[u8]) -> bool
     ensures { λ r. ⌜ r ≡ isRecord version1 (now (bytes .entry)) ⌝ }
 {
     let n = octets_part::byte_at(bytes, 3) as usize;
-    if bytes.len() < 32 + n {
+    if bytes.len() < RECORD_LENGTH + n {
         return false;
     }
-    if pair(bytes[0], bytes[1]) != 30 + n {
+    if pair(bytes[0], bytes[1]) != BODY_LENGTH + n {
         return false;
     }
     if 3 < bytes[2] {
@@ -138,7 +143,7 @@ fn scan_records(table: &[u8], name: &[u8]) -> Scan
                 found = find_here(found, &table[at..], n, at, name);
                 before = at + 4;
                 before_end = at + 4 + n;
-                at = at + 32 + n;
+                at = at + RECORD_LENGTH + n;
                 count += 1;
             }
         }

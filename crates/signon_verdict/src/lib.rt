@@ -16,12 +16,20 @@ ghost use Rattle.signon.specs.Attempt.{isPresent, isClear};
 ghost use Rattle.signon.specs.Verdict.{answerBy, answerOf};
 ghost use Rattle.signon_verdict.specs.near.Decisions.{userOf, seedOf, offeredOf, seedGiven, offerGiven, isPanel};
 ghost use Rattle.signon_verdict.specs.near.Decisions.{isProved, unknownVerdict, judged, knownVerdict};
+use env::LIST_LIMIT;
+use env::PAYLOAD_LIMIT;
+use env::RECORD_WIDTH;
 use env_records::ValuePlace;
 use profile_table::Entry;
 use profile_table::Found;
 use profile_table::TableCheck;
 use signon::Answer;
 use signon::Verdict;
+
+// The kinds of variables.
+const VAR: usize = 0;
+
+const USERVAR: usize = 3;
 
 // Whether a variable of a kind and name is there.
 fn is_there(bytes: &[u8], numbers: &[usize], kind: usize, name: &[u8]) -> bool
@@ -36,31 +44,31 @@ fn is_there(bytes: &[u8], numbers: &[usize], kind: usize, name: &[u8]) -> bool
 fn seed_given(bytes: &[u8], numbers: &[usize]) -> bool
     ensures { λ r. ⌜ r ≡ seedGiven (held (now (bytes .entry)) (now (numbers .entry))) ⌝ }
 {
-    is_there(bytes, numbers, 3, b"IBMRSEED")
+    is_there(bytes, numbers, USERVAR, b"IBMRSEED")
 }
 
 fn offer_given(bytes: &[u8], numbers: &[usize]) -> bool
     ensures { λ r. ⌜ r ≡ offerGiven (held (now (bytes .entry)) (now (numbers .entry))) ⌝ }
 {
-    is_there(bytes, numbers, 3, b"IBMSUBSPW")
+    is_there(bytes, numbers, USERVAR, b"IBMSUBSPW")
 }
 
 fn user_of<'a>(bytes: &'a [u8], numbers: &[usize]) -> &'a [u8]
     ensures { λ r. ⌜ now r ≡ userOf (held (now (bytes .entry)) (now (numbers .entry))) ⌝ }
 {
-    env_records::value_of(bytes, numbers, 0, b"USER")
+    env_records::value_of(bytes, numbers, VAR, b"USER")
 }
 
 fn seed_of<'a>(bytes: &'a [u8], numbers: &[usize]) -> &'a [u8]
     ensures { λ r. ⌜ now r ≡ seedOf (held (now (bytes .entry)) (now (numbers .entry))) ⌝ }
 {
-    env_records::value_of(bytes, numbers, 3, b"IBMRSEED")
+    env_records::value_of(bytes, numbers, USERVAR, b"IBMRSEED")
 }
 
 fn offered_of<'a>(bytes: &'a [u8], numbers: &[usize]) -> &'a [u8]
     ensures { λ r. ⌜ now r ≡ offeredOf (held (now (bytes .entry)) (now (numbers .entry))) ⌝ }
 {
-    env_records::value_of(bytes, numbers, 3, b"IBMSUBSPW")
+    env_records::value_of(bytes, numbers, USERVAR, b"IBMSUBSPW")
 }
 
 // Whether neither USERVAR is there.
@@ -217,12 +225,17 @@ pub fn verdict(server_seed: &[u8], table: &[u8], payload: &[u8]) -> Answer
     if server_seed.len() != 8 {
         return Answer::Refused(refusal::BAD_SERVER_SEED);
     }
-    let mut bytes = [0u8; 1024];
-    let mut numbers = [0usize; 320];
+    let mut bytes = [0u8; PAYLOAD_LIMIT];
+    let mut numbers = [0usize; LIST_LIMIT];
     match env_reader::read(payload, &mut bytes, &mut numbers) {
         env_delivery::Answer::Refused(number) => refuse(table, number),
         env_delivery::Answer::Read(_, count, used) => {
-            decide(server_seed, table, &bytes[0..used], &numbers[0..5 * count])
+            decide(
+                server_seed,
+                table,
+                &bytes[0..used],
+                &numbers[0..RECORD_WIDTH * count],
+            )
         }
     }
 }

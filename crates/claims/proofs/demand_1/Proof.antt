@@ -1,5 +1,5 @@
 -- `claims::demand_1` promises that every entry point refuses by its own numbers and leaves all as it was. Assumes nothing.
-use Rattle.claims.proofs.LineRefusals.{looks, reads, reads-records, writes, receives, requests}
+use Rattle.claims.proofs.LineRefusals.{looks, reads, reads-records, writes, lists, receives, requests}
 use Rattle.claims.proofs.SessionRefusals.{session-receives, session-requests}
 use Rattle.claims.proofs.PayloadRefusals.{reads-payloads, reads-lists, writes-payloads}
 use Rattle.claims.proofs.SignonRefusals.{checks, finds, makes, des-tokens, sha-tokens, des-substitutes, sha-substitutes, judges, responds, reads-frames, takes, completes}
@@ -12,6 +12,7 @@ returns c = record {
   read = reads;
   readRecord = reads-records;
   write = writes;
+  list = lists;
   receive = receives;
   request = requests;
   sessionReceive = session-receives;
