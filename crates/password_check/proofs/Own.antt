@@ -1,0 +1,75 @@
+-- What the password of a name gives passes, and nothing else does (`Theorems.OwnPasswordGives`). Assumes nothing.
+use mathlib.Core.Path.{_≡_, sym, _∙_}
+use mathlib.Core.Bool.{true, _&&_, and-eq-true-iff}
+use mathlib.Core.List.{List}
+use mathlib.Core.Logic.{_↔_}
+use Prim.Native.Nat.{ℕ, _<_, _^_}
+use native.Mathlib.Nat.{mod-eq-of-lt}
+use denote.Floats.{passes, is-true}
+use borrow.Author.Tests.{eq-eqb}
+use lib.Bits.{xor-lt}
+use lib.Dec.{T, eqb, ltb}
+use lib.ListN.{length}
+use Rattle.octets.specs.Same.{same}
+use Rattle.octets.proofs.Choice.{choice}
+use Rattle.octets.proofs.Equality.{same-is-equal, same-refl}
+use Rattle.words.specs.BigEndian.{number, bytes}
+use Rattle.words.proofs.BigEndian.{length-bytes, number-bytes}
+use Rattle.names.specs.Name.{isName, profileLimit}
+use Rattle.names.specs.Ebcdic.{ebcdicOf}
+use Rattle.des.specs.Cipher.{output}
+use Rattle.des.specs.Tables.{IP⁻¹}
+use Rattle.des.proofs.Sizes.{permuted-lt}
+use Rattle.sha1.proofs.Digest.{length-sha1}
+use Rattle.password_des.specs.Des as Des
+use Rattle.password_sha.specs.Sha as Sha
+use Rattle.password_check.specs.Gives.{seedLength, desLength, shaLength, areSeeds, givesClear, givesDes, givesSha}
+use Rattle.password_check.specs.Theorems.{OwnGives, OwnPasswordGives}
+
+-- a token has eight bytes, or twenty
+output-lt : (Ks : List (List ℕ)) (x : ℕ) → output Ks x < 2 ^ 64
+unfolding output
+output-lt Ks x = permuted-lt 64 IP⁻¹ _
+
+token-lt : (PW ID : List ℕ) → Des.PW-TOKEN PW ID < 2 ^ 64
+unfolding Des.PW-TOKEN
+token-lt PW ID = choice (λ (x : ℕ). x < 2 ^ 64) (ltb 8 (length PW)) (λ _. xor-lt 64 _ _ (output-lt _ _) (output-lt _ _)) (λ _. output-lt _ _)
+
+length-token : (name password : List ℕ) → length (Sha.PW-token name password) ≡ shaLength
+unfolding Sha.PW-token
+length-token name password = length-sha1 _
+
+-- its eight bytes are the token again
+number-token : (PW ID : List ℕ) → number (bytes 8 (Des.PW-TOKEN PW ID)) ≡ Des.PW-TOKEN PW ID
+number-token PW ID = number-bytes 8 (Des.PW-TOKEN PW ID) ∙ mod-eq-of-lt (token-lt PW ID)
+
+-- the comparison says yes exactly where the two are equal
+equal-exactly : (a b : List ℕ) → (same a b ≡ true) ↔ (b ≡ a)
+equal-exactly a b = (λ e. sym (same-is-equal a b .0 (passes (same a b) e)), λ e. is-true (same a b) (same-is-equal a b .1 (sym e)))
+
+-- with a token of its length, two seeds and a good name, the comparison decides
+exactly : (name : List ℕ) → T (isName profileLimit name) → (n : ℕ) (stored server client substitute offered : List ℕ)
+    → length stored ≡ n → length server ≡ seedLength → length client ≡ seedLength
+    → ((eqb (length stored) n && (areSeeds server client && (isName profileLimit name && same substitute offered))) ≡ true) ↔ (offered ≡ substitute)
+exactly name good n stored server client substitute offered h s k =
+    rw (eq-eqb (length stored) n h, eq-eqb (length server) seedLength s, eq-eqb (length client) seedLength k, is-true (isName profileLimit name) good)
+    (equal-exactly substitute offered)
+
+pub own-password-gives : OwnPasswordGives
+unfolding givesDes givesSha givesClear
+own-password-gives name password good =
+    let named = is-true (isName profileLimit name) good in
+    let desToken = Des.PW-TOKEN (ebcdicOf password) (ebcdicOf name) in
+    let token = Sha.PW-token name password in
+    record {
+      des = λ _ server client offered s k.
+          rw (number-token (ebcdicOf password) (ebcdicOf name))
+          (exactly name good desLength (bytes 8 desToken) server client _ offered (length-bytes 8 desToken) s k);
+      sha = λ _ server client offered s k. exactly name good shaLength token server client _ offered (length-token name password) s k;
+      clear = λ offered.
+          let compared = same (Sha.PW-token name offered) token in
+          let equal = same-is-equal (Sha.PW-token name offered) token in
+          let both = and-eq-true-iff (Sha.isPassword offered) compared in
+          rw named (λ e. (both .0 e .0, equal .0 (passes compared (both .0 e .1))), λ h. both .1 (h .0, is-true compared (equal .1 (h .1))));
+      itself = λ h. rw (named, is-true (Sha.isPassword password) h) (is-true (same token token) (same-refl token));
+    }
