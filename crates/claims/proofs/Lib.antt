@@ -4,3 +4,4 @@ pub mod LineRefusals
 pub mod SessionRefusals
 pub mod PayloadRefusals
 pub mod SignonRefusals
+pub mod Sections

@@ -3,13 +3,10 @@ use Rattle.octets.specs.Same.{SameIsEqual}
 use Rattle.words.specs.Padding.{FewestZeroBits}
 use Rattle.option_sides.specs.Verbs.{HeardAsSaid}
 use Rattle.option_sides.specs.Session.{SetsOne}
-use Rattle.print_frame.specs.Theorems.{TooLongToSay}
 use Rattle.env.specs.Theorems.{IsBoth, AmongIsOccurs, RepeatedIsTwice}
 use Rattle.env.specs.Boundaries.{boundaries, AllRead}
 use Rattle.env_records.specs.Theorems.{FindsTheValue, AbsentWhereNone}
 use Rattle.names.specs.Theorems.{OwnEbcdic, Apart, StrictAndTotal}
-use Rattle.profile.specs.Theorems.{LookupIsMembership}
-use Rattle.profile_table.specs.Theorems.{FoundIsNamed}
 use Rattle.des.specs.Theorems.{ParityIgnored, FinalUndoesInitial}
 use Rattle.telnet_listing.specs.Sample.{Sample}
 
@@ -22,8 +19,6 @@ pub record Others : Type 0 where
   pub heardAsSaid : HeardAsSaid
   -- A step of one side of an option leaves the nine others as they were.
   pub setsOne : SetsOne
-  -- A frame that is too long to say its length is refused by 40.
-  pub tooLongToSay : TooLongToSay
   -- A variable is of a kind and name where both are its own; one is among some where it occurs; 25 is a kind and name that are there twice.
   pub isBoth : IsBoth
   pub amongIsOccurs : AmongIsOccurs
@@ -36,11 +31,8 @@ pub record Others : Type 0 where
   -- The bytes of names have EBCDIC of their own, and no two the same.
   pub ownEbcdic : OwnEbcdic
   pub apart : Apart
-  -- The order of names is strict and total; so in a table no name is there twice, and a look-up is membership.
+  -- The order of names is strict and total.
   pub strictAndTotal : StrictAndTotal
-  pub lookupIsMembership : LookupIsMembership
-  -- What the look-up answers is the profile of that name, by the place where its record stands.
-  pub foundIsNamed : FoundIsNamed
   -- "The parity bits of a key are ignored."
   pub parityIgnored : ParityIgnored
   -- FIPS 46: the final permutation is the inverse of the initial one.

@@ -6,7 +6,6 @@
 ghost use Rattle.claims.specs.Demand3.{Demand3};
 ghost use Rattle.claims.specs.Demand1.{Demand1};
 ghost use Rattle.claims.specs.Demand2.{Demand2};
-ghost use Rattle.claims.specs.Ledger.{LedgerTotal};
 ghost use Rattle.claims.specs.Worked.{lines, AllHold};
 ghost use Rattle.claims.specs.Others.{Others};
 
@@ -23,11 +22,6 @@ pub fn demand_2()
 // The owner's demand 3.
 pub fn demand_3()
     ensures { λ _. ⌜ Demand3 ⌝ }
-{}
-
-// The total of the print ledger.
-pub fn ledger_total()
-    ensures { λ _. ⌜ LedgerTotal ⌝ }
 {}
 
 // The specification's worked lines that are marked P.

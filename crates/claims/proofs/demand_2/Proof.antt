@@ -3,7 +3,6 @@ use Rattle.telnet.proofs.RoundTrip.{reads-back, writes-back}
 use Rattle.telnet.proofs.Writable.{read-is-writable}
 use Rattle.telnet.proofs.Unroll.{unrolled}
 use Rattle.telnet.proofs.Between.{record-is-all-data, record-reads-back}
-use Rattle.print_ledger.proofs.OnTheLine.{print-complete-reads-back, print-complete-is-a-frame}
 use Rattle.env.proofs.ReadingBack.{reads-back as variables-read-back, reads-the-same}
 use Rattle.env.proofs.Holding.{holds-again}
 use Rattle.env_delivery.proofs.Meaning.{read-is-held, room-suffices}
@@ -11,23 +10,27 @@ use Rattle.env_writer.proofs.Meaning.{wrote-reads-back}
 use Rattle.env_list.proofs.Meaning.{lists-the-variables}
 use Rattle.profile.proofs.Tables.{records-read-back, tables-read-back}
 use Rattle.profile.proofs.Backs.{tables-written-back}
+use Rattle.profile.proofs.Members.{lookup-is-membership}
+use Rattle.profile_table.proofs.Meaning.{found-is-named}
 use Rattle.profile_maker.proofs.Goodness.{made-records-are-good, made-tables-read}
+use Rattle.password_check.proofs.Own.{own-password-gives}
 use Rattle.signon.proofs.Verdicts.{verdict-is-its-sentence, no-verdict-if-refused, only-enabled-granted}
 use Rattle.startup.proofs.Records.{responses-are-right}
-use Rattle.claims.specs.RoundTrips.{RoundTrips}
+use Rattle.print_frame.proofs.Limits.{too-long-to-say}
+use Rattle.print_ledger.proofs.OnTheLine.{print-complete-reads-back, print-complete-is-a-frame}
+use Rattle.print_ledger.proofs.HeardBack.{prints-are-heard-back}
+use Rattle.claims.proofs.Sections.{des-token-of-the-section, des-substitute-of-the-section, sha-token-of-the-section, sha-substitute-of-the-section}
 use Rattle.claims.proofs.demand_2.Statement.{statement}
 use Rattle.claims.proofs.demand_2.Tie as tie
 
-round-trips : RoundTrips
-round-trips = record {
+returns : tie.Need-returns
+returns c = record {
   eventsReadBack = reads-back;
   bytesWrittenBack = writes-back;
   readIsWritable = read-is-writable;
   oneEventAfterAnother = unrolled;
   recordIsAllData = record-is-all-data;
   recordReadsBack = record-reads-back;
-  printCompleteReadsBack = print-complete-reads-back;
-  printCompleteIsAFrame = print-complete-is-a-frame;
   variablesReadBack = variables-read-back;
   variablesReadTheSame = reads-the-same;
   variablesHeldAgain = holds-again;
@@ -38,17 +41,23 @@ round-trips = record {
   recordsReadBack = records-read-back;
   tablesReadBack = tables-read-back;
   tablesWrittenBack = tables-written-back;
+  lookupIsMembership = lookup-is-membership;
+  foundIsNamed = found-is-named;
   madeRecordsAreGood = made-records-are-good;
   madeTablesRead = made-tables-read;
-}
-
-returns : tie.Need-returns
-returns c = record {
-  readingAndWritingAlike = round-trips;
+  desTokenOfTheSection = des-token-of-the-section;
+  desSubstituteOfTheSection = des-substitute-of-the-section;
+  shaTokenOfTheSection = sha-token-of-the-section;
+  shaSubstituteOfTheSection = sha-substitute-of-the-section;
+  ownPasswordGives = own-password-gives;
   verdictIsItsSentence = verdict-is-its-sentence;
   noVerdictIfRefused = no-verdict-if-refused;
   onlyEnabledGranted = only-enabled-granted;
   responsesAreRight = responses-are-right;
+  printCompleteReadsBack = print-complete-reads-back;
+  printCompleteIsAFrame = print-complete-is-a-frame;
+  tooLongToSay = too-long-to-say;
+  printsAreHeardBack = prints-are-heard-back;
 }
 
 pub demand-2-spec : {M : Type 1} → statement M

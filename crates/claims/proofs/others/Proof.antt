@@ -2,14 +2,11 @@
 use Rattle.octets.proofs.Equality.{same-is-equal}
 use Rattle.words.proofs.Padding.{fewest-zero-bits}
 use Rattle.option_sides.proofs.Setting.{heard-as-said, sets-one}
-use Rattle.print_frame.proofs.Limits.{too-long-to-say}
 use Rattle.env.proofs.Repeats.{is-both, among-is-occurs, repeated-is-twice}
 use Rattle.env.proofs.Boundary.{boundaries-read}
 use Rattle.env_records.proofs.Found.{finds-the-value, absent-where-none}
 use Rattle.names.proofs.Apart.{own-ebcdic, apart}
 use Rattle.names.proofs.Order.{strict-and-total}
-use Rattle.profile.proofs.Members.{lookup-is-membership}
-use Rattle.profile_table.proofs.Meaning.{found-is-named}
 use Rattle.des.proofs.Parity.{parity-ignored}
 use Rattle.des.proofs.Permutations.{final-undoes-initial}
 use Rattle.telnet_listing.proofs.Sample.{worked}
@@ -22,7 +19,6 @@ returns c = record {
   fewestZeroBits = fewest-zero-bits;
   heardAsSaid = heard-as-said;
   setsOne = sets-one;
-  tooLongToSay = too-long-to-say;
   isBoth = is-both;
   amongIsOccurs = among-is-occurs;
   repeatedIsTwice = repeated-is-twice;
@@ -32,8 +28,6 @@ returns c = record {
   ownEbcdic = own-ebcdic;
   apart = apart;
   strictAndTotal = strict-and-total;
-  lookupIsMembership = lookup-is-membership;
-  foundIsNamed = found-is-named;
   parityIgnored = parity-ignored;
   finalUndoesInitial = final-undoes-initial;
   sample = worked;
