@@ -1,4 +1,4 @@
--- What the password of a name gives passes, and nothing else does (`Theorems.OwnPasswordGives`). Assumes nothing.
+-- What a name's own password gives passes, and no other substitute does (`Theorems.OwnPasswordGives`). Assumes nothing.
 use mathlib.Core.Path.{_≡_, sym, _∙_}
 use mathlib.Core.Bool.{true, _&&_, and-eq-true-iff}
 use mathlib.Core.List.{List}

@@ -1,4 +1,5 @@
--- What is proved of the three tests: what the password of a name gives passes them, and nothing else does. The proof is in `proofs/Own.antt`.
+-- What is proved of the three tests: the substitutes that a name's own password gives pass, and no others; a clear password passes exactly where its token is
+-- the stored one. The proof is in `proofs/Own.antt`.
 use mathlib.Core.Path.{_≡_}
 use mathlib.Core.Bool.{true}
 use mathlib.Core.List.{List}
