@@ -17,6 +17,8 @@ use Rattle.option_rules.specs.Table.{rulesOf, onReceive, onRequest}
 use Rattle.option_sides.specs.declared.Whose.{Whose}
 use Rattle.option_sides.specs.declared.Sides.{Sides}
 use Rattle.option_sides.specs.Session.{received, requested}
+use Rattle.option_line.specs.declared.Sent.{Sent}
+use Rattle.option_line.specs.Line.{receivedOn, requestedOn}
 use Rattle.telnet.specs.declared.Verb.{Verb}
 use Rattle.env.specs.declared.VariableRecord.{VariableRecord}
 use Rattle.env_delivery.specs.Promise.{readInto}
@@ -58,6 +60,10 @@ RefusesBy numbers r = Refuses numbers {L = Unit {0}} tt tt r
 abbrev pub RefusesInto : {A : Type 0} → List ℕ → (A → Refusal) → List ℕ → Outcome A → Type 0
 RefusesInto numbers of out o = Refuses numbers out (o .lent) (of (o .answer))
 
+-- a step of the sides with its command: by one of these numbers, with sides and line as they were
+abbrev pub RefusesOnLine : List ℕ → (ℕ → Refusal) → Sides → List ℕ → Outcome Sent → Type 0
+RefusesOnLine numbers by s l o = Refuses numbers {L = Sides × List ℕ} (s, l) (o .answer .sides, o .lent) (by (o .answer .number))
+
 pub record Demand1 : Type 0 where
   -- events and records of the line: `look`, `read`, `read_record`, `write`
   pub look : (s : List ℕ) (at : ℕ) → RefusesBy (5 ∷ line) (ofEvent (lookAt s at))
@@ -73,6 +79,10 @@ pub record Demand1 : Type 0 where
   pub sessionReceive : (s : Sides) (v : Verb) (o : ℕ) (accept : Bool) → Refuses [] s (received s v o accept .sides) (byReceipt (received s v o accept .number))
   pub sessionRequest : (s : Sides) (w : Whose) (o : ℕ) (c : Command)
       → Refuses (10 ∷ 11 ∷ 12 ∷ 13 ∷ []) s (requested s w o c .sides) (byNumber (requested s w o c .number))
+  -- with the command put on the line, also where it finds no room
+  pub lineReceive : (s : Sides) (v : Verb) (o : ℕ) (accept : Bool) (l : List ℕ) (at : ℕ) → RefusesOnLine (4 ∷ []) byReceipt s l (receivedOn s v o accept l at)
+  pub lineRequest : (s : Sides) (w : Whose) (o : ℕ) (c : Command) (l : List ℕ) (at : ℕ)
+      → RefusesOnLine (10 ∷ 11 ∷ 12 ∷ 13 ∷ 4 ∷ []) byNumber s l (requestedOn s w o c l at)
   -- environment strings: `env_reader::read`, `env_list::read_records`, `env_writer::write`
   pub readPayload : (p bytes numbers : List ℕ)
       → Refuses (4 ∷ payload) {L = List ℕ × List ℕ} (bytes, numbers) (readInto p bytes numbers .bytes, readInto p bytes numbers .numbers) (ofPayload (readInto p bytes numbers .answer))
