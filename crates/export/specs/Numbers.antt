@@ -1,4 +1,4 @@
--- The numbers by which the kinds of events cross to a caller in C, and an outcome whose answer crosses as numbers.
+-- The numbers by which the kinds of events and the answers of writers cross to a caller in C.
 use mathlib.Core.Path.{_≡_}
 use Prim.Native.Nat.{ℕ}
 use lib.Dec.{eqb}
@@ -8,6 +8,7 @@ use Rattle.telnet.specs.declared.Kind.{Kind}
 use Rattle.telnet.specs.declared.Kind.the-variants.{Data, Command, Negotiation, Subnegotiation}
 use Rattle.telnet.specs.Event.{code}
 use Rattle.export.specs.declared.KindNumbers.{KindNumbers}
+use Rattle.export.specs.declared.TvWritten.{TvWritten}
 use Rattle.export.specs.declared.NamedVerb.{NamedVerb}
 use Rattle.export.specs.declared.NamedVerb.the-variants.{Nothing as NoVerb, Verb as IsVerb}
 use Rattle.export.specs.declared.NamedKind.{NamedKind}
@@ -18,6 +19,13 @@ use Rattle.octets.specs.Lent.{Outcome, outcome}
 -- an outcome with its answer as numbers; what is lent is left as it is
 abbrev pub numbered : {A B : Type 0} → (A → B) → Outcome A → Outcome B
 numbered f o = outcome (f (o .answer)) (o .lent)
+
+-- so many bytes were written, or a refusal
+abbrev pub wrote : ℕ → TvWritten
+wrote n = record { refusal = 0; length = n }
+
+abbrev pub notWritten : ℕ → TvWritten
+notWritten r = record { refusal = r; length = 0 }
 
 abbrev pub three : ℕ → ℕ → ℕ → KindNumbers
 three w c o = record { what = w; code = c; option = o }

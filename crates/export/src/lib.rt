@@ -1,5 +1,5 @@
-// What the exported functions share: the kind of an event as three numbers, and the kind that three numbers name. Which number stands for what is said
-// in `specs/Numbers.antt`. The exports are in the crates `export_telnet`, `export_option` and their like.
+// What the exported functions share: the kind of an event as three numbers, the kind that three numbers name, and what a writer answers. Which number stands
+// for what is said in `specs/Numbers.antt`. The exports are in the crates `export_telnet`, `export_option` and their like.
 ghost use mathlib.Core.Path.{_≡_};
 ghost use Rattle.export.specs.Numbers.{kindNumbers, verbNamed, negotiationNamed, kindNamed, NamedBack};
 ghost use Rattle.telnet.specs.Event.{code};
@@ -12,6 +12,13 @@ pub struct KindNumbers {
     pub what: u8,
     pub code: u8,
     pub option: u8,
+}
+
+// How many bytes were written to the front of a buffer. `refusal` is 0, or the number of a refusal with `length` 0.
+#[repr(C)]
+pub struct TvWritten {
+    pub refusal: u8,
+    pub length: usize,
 }
 
 // The option command that a number names, if it names one.

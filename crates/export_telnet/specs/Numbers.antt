@@ -4,7 +4,8 @@ use mathlib.Core.List.{List}
 use Rattle.export.specs.declared.KindNumbers.{KindNumbers}
 use Rattle.export.specs.declared.NamedKind.{NamedKind}
 use Rattle.export.specs.declared.NamedKind.the-variants.{Nothing as NoKind, Kind as IsKind}
-use Rattle.export.specs.Numbers.{kindNumbers}
+use Rattle.export.specs.declared.TvWritten.{TvWritten}
+use Rattle.export.specs.Numbers.{kindNumbers, wrote, notWritten}
 use Rattle.telnet.specs.Event.{event}
 use Rattle.telnet_reader.specs.declared.Answer.{Answer}
 use Rattle.telnet_reader.specs.declared.Answer.the-variants.{End, Found, Refused}
@@ -15,7 +16,6 @@ use Rattle.telnet_writer.specs.declared.Written.the-variants.{Wrote, Refused as
 use Rattle.telnet_writer.specs.Promise.{writeOf}
 use Rattle.export_telnet.specs.declared.TvEvent.{TvEvent}
 use Rattle.export_telnet.specs.declared.TvRecord.{TvRecord}
-use Rattle.export_telnet.specs.declared.TvWritten.{TvWritten}
 use Rattle.refusal.specs.Refusal.{notWritable}
 use Rattle.octets.specs.Lent.{Outcome, outcome}
 
@@ -37,8 +37,8 @@ recordNumbers Unfinished = record { complete = 0; refusal = 0; length = 0; next 
 recordNumbers (NoRecord r) = record { complete = 0; refusal = r; length = 0; next = 0 }
 
 abbrev pub writtenNumbers : Written → TvWritten
-writtenNumbers (Wrote n) = record { refusal = 0; length = n }
-writtenNumbers (NotWritten r) = record { refusal = r; length = 0 }
+writtenNumbers (Wrote n) = wrote n
+writtenNumbers (NotWritten r) = notWritten r
 
 -- the event that numbers name, written; where they name none it is not writable
 abbrev pub writeNamed : NamedKind → List ℕ → List ℕ → Outcome Written

@@ -9,6 +9,7 @@ ghost use Rattle.telnet_records.specs.Promise.{recordAt};
 ghost use Rattle.telnet_writer.specs.Promise.{writeOf};
 ghost use Rattle.octets.specs.Lent.{outcome};
 use export::NamedKind;
+use export::TvWritten;
 use telnet_reader::Answer;
 use telnet_records::Record;
 use telnet_writer::Written;
@@ -33,13 +34,6 @@ pub struct TvRecord {
     pub refusal: u8,
     pub length: usize,
     pub next: usize,
-}
-
-// How many bytes were written.
-#[repr(C)]
-pub struct TvWritten {
-    pub refusal: u8,
-    pub length: usize,
 }
 
 fn event_numbers(answer: Answer) -> TvEvent
