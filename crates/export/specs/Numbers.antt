@@ -1,6 +1,7 @@
 -- The numbers by which the kinds of events and the answers of writers cross to a caller in C.
 use mathlib.Core.Path.{_≡_}
 use Prim.Native.Nat.{ℕ}
+use mathlib.Core.Bool.{Bool}
 use lib.Dec.{eqb}
 use Rattle.telnet.specs.declared.Verb.{Verb}
 use Rattle.telnet.specs.declared.Verb.the-variants.{Will, Wont, Do, Dont}
@@ -19,6 +20,10 @@ use Rattle.octets.specs.Lent.{Outcome, outcome}
 -- an outcome with its answer as numbers; what is lent is left as it is
 abbrev pub numbered : {A B : Type 0} → (A → B) → Outcome A → Outcome B
 numbered f o = outcome (f (o .answer)) (o .lent)
+
+-- a yes or no
+abbrev pub mark : Bool → ℕ
+mark t = if t then 1 else 0
 
 -- so many bytes were written, or a refusal
 abbrev pub wrote : ℕ → TvWritten

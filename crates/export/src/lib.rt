@@ -1,7 +1,7 @@
-// What the exported functions share: the kind of an event as three numbers, the kind that three numbers name, and what a writer answers. Which number stands
+// What the exported functions share: the kind of an event as three numbers, the kind that three numbers name, what a writer answers, and marks. Which number stands
 // for what is said in `specs/Numbers.antt`. The exports are in the crates `export_telnet`, `export_option` and their like.
 ghost use mathlib.Core.Path.{_≡_};
-ghost use Rattle.export.specs.Numbers.{kindNumbers, verbNamed, negotiationNamed, kindNamed, NamedBack};
+ghost use Rattle.export.specs.Numbers.{kindNumbers, verbNamed, negotiationNamed, kindNamed, NamedBack, mark};
 ghost use Rattle.telnet.specs.Event.{code};
 use telnet::Kind;
 use telnet::Verb;
@@ -102,6 +102,13 @@ pub fn kind_named(what: u8, code: u8, option: u8) -> NamedKind
         4 => NamedKind::Kind(Kind::Subnegotiation(option)),
         _ => NamedKind::Nothing,
     }
+}
+
+// A yes or no as a number: 1 or 0.
+pub fn mark(set: bool) -> u8
+    ensures { λ r. ⌜ r ≡ mark set ⌝ }
+{
+    if set { 1 } else { 0 }
 }
 
 // The numbers of a kind name it.
