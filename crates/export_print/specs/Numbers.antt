@@ -1,4 +1,5 @@
 -- The numbers of what a printer frame says and of what the ledger answers, and the ledger that a number names.
+use mathlib.Core.Path.{_≡_}
 use Prim.Native.Nat.{ℕ}
 use lib.Dec.{eqb}
 use lib.ListN.{length}
@@ -103,3 +104,7 @@ completionNumbers l (NotWritten r) = completed l r 0
 
 abbrev pub completedNumbers : Completed → TvCompleted
 completedNumbers c = completionNumbers (ledgerNumber (c .ledger)) (c .completion)
+
+-- The number of a ledger is read as the ledger.
+abbrev pub NamedBack : Type 0
+NamedBack = (l : Ledger) → ledgerNamed (ledgerNumber l) ≡ l

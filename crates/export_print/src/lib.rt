@@ -3,7 +3,7 @@
 // back as it was. A slice is a pointer and a length.
 ghost use mathlib.Core.Path.{_≡_};
 ghost use Rattle.export_print.specs.Numbers.{directionNumber, operationNumber, readNumbers, frameNumbers, ledgerNumber, ledgerNamed};
-ghost use Rattle.export_print.specs.Numbers.{takenNumbers, completedNumbers};
+ghost use Rattle.export_print.specs.Numbers.{takenNumbers, completedNumbers, NamedBack};
 ghost use Rattle.export.specs.Numbers.{numbered};
 ghost use Rattle.print_frame.specs.Frame.{frameOf};
 ghost use Rattle.print_ledger.specs.Ledger.{takeFrame, completeInto};
@@ -188,6 +188,11 @@ fn completed_numbers(completed: Completed) -> TvCompleted
         },
     }
 }
+
+// The number of a ledger is read as the ledger.
+pub fn ledger_named_back()
+    ensures { λ _. ⌜ NamedBack ⌝ }
+{}
 
 // What a frame says. Refused by 40 to 45.
 #[no_mangle]
