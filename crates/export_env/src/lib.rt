@@ -1,0 +1,117 @@
+// Environment strings, for a caller in C. Each function answers with numbers: which number stands for what is said at the structs and in
+// `specs/Numbers.antt`. A `refusal` is 0 where there is none; else it is the refusal's number, and every other field is 0. A slice is a pointer and a
+// length. A list of variable records is a slice of numbers, five for each: its kind (0 VAR, 3 USERVAR), the place and the length of its name in a buffer,
+// and the place and the length of its value there.
+ghost use mathlib.Core.Path.{_≡_};
+ghost use Rattle.export_env.specs.Numbers.{payloadNumbers, readOut, readNumbers, writtenNumbers, placeNumbers};
+ghost use Rattle.export.specs.Numbers.{numbered};
+ghost use Rattle.env_delivery.specs.Promise.{readInto};
+ghost use Rattle.env_writer.specs.Promise.{writeInto};
+ghost use Rattle.env_records.specs.Records.{placeOf};
+ghost use Rattle.octets.specs.Lent.{outcome};
+use env_delivery::Answer;
+use env_records::ValuePlace;
+use env_writer::Written;
+use export::TvWritten;
+
+// A payload that was read: its first byte (0 IS, 2 INFO), how many variables it has, and how many bytes their names and values take.
+#[repr(C)]
+pub struct TvPayload {
+    pub refusal: u8,
+    pub first: u8,
+    pub variables: usize,
+    pub bytes: usize,
+}
+
+// Where a value stands in a buffer. `present` is 1, or 0 with the others 0.
+#[repr(C)]
+pub struct TvValue {
+    pub present: u8,
+    pub at: usize,
+    pub length: usize,
+}
+
+fn payload_numbers(answer: Answer) -> TvPayload
+    ensures { λ r. ⌜ r ≡ payloadNumbers answer ⌝ }
+{
+    match answer {
+        Answer::Read(first, variables, bytes) => TvPayload {
+            refusal: 0,
+            first,
+            variables,
+            bytes,
+        },
+        Answer::Refused(n) => TvPayload {
+            refusal: n,
+            first: 0,
+            variables: 0,
+            bytes: 0,
+        },
+    }
+}
+
+fn written_numbers(answer: Written) -> TvWritten
+    ensures { λ r. ⌜ r ≡ writtenNumbers answer ⌝ }
+{
+    match answer {
+        Written::Wrote(length) => TvWritten { refusal: 0, length },
+        Written::Refused(n) => TvWritten {
+            refusal: n,
+            length: 0,
+        },
+    }
+}
+
+fn place_numbers(place: ValuePlace) -> TvValue
+    ensures { λ r. ⌜ r ≡ placeNumbers place ⌝ }
+{
+    match place {
+        ValuePlace::Absent => TvValue {
+            present: 0,
+            at: 0,
+            length: 0,
+        },
+        ValuePlace::At(at, length) => TvValue {
+            present: 1,
+            at,
+            length,
+        },
+    }
+}
+
+// Reads a payload of NEW-ENVIRON. Names and values go back to back into `bytes`, and the records of their variables into `numbers`. Refused by 3, 20 to 25
+// and 4.
+#[no_mangle]
+pub extern "C" fn tv_env_read(payload: &[u8], bytes: &mut [u8], numbers: &mut [usize]) -> TvPayload
+    ensures { λ r. ⌜
+        readOut r (now (bytes .exit)) (now (numbers .exit))
+        ≡ readNumbers (readInto (now (payload .entry)) (now (bytes .entry)) (now (numbers .entry)))
+        ⌝ }
+{
+    payload_numbers(env_reader::read(payload, bytes, numbers))
+}
+
+// Writes a payload to the front of `out`: its first byte, and the variables that the records have over `bytes`. Refused by 20, 27, 21, 24, 25, 3 and 4.
+#[no_mangle]
+pub extern "C" fn tv_env_write(
+    first: u8,
+    bytes: &[u8],
+    numbers: &[usize],
+    out: &mut [u8],
+) -> TvWritten
+    ensures { λ r. ⌜
+        outcome r (now (out .exit))
+        ≡ numbered writtenNumbers (writeInto first (now (bytes .entry)) (now (numbers .entry)) (now (out .entry)))
+        ⌝ }
+{
+    written_numbers(env_writer::write(first, bytes, numbers, out))
+}
+
+// Where the value stands of the first variable of a kind and name. The place is the record's own: records that `tv_env_read` set keep within `bytes`,
+// others may not.
+#[no_mangle]
+pub extern "C" fn tv_env_value(bytes: &[u8], numbers: &[usize], kind: usize, name: &[u8]) -> TvValue
+    ensures { λ r. ⌜ r ≡ placeNumbers (placeOf kind (now (name .entry)) (now (bytes .entry)) (now (numbers .entry))) ⌝ }
+{
+    place_numbers(env_records::find(bytes, numbers, kind, name))
+}

@@ -1,0 +1,43 @@
+-- The numbers of the verdicts and of what is answered with them, and the verdict that a number names.
+use mathlib.Core.Path.{_≡_}
+use Prim.Native.Nat.{ℕ}
+use lib.Dec.{eqb}
+use Rattle.signon.specs.declared.Verdict.{Verdict}
+use Rattle.signon.specs.declared.Verdict.the-variants.{Panel, NotKnown, Disabled, Failed, Grant}
+use Rattle.signon.specs.declared.Answer.{Answer}
+use Rattle.signon.specs.declared.Answer.the-variants.{Given, Refused}
+use Rattle.startup_record.specs.declared.Written.{Written}
+use Rattle.startup_record.specs.declared.Written.the-variants.{Wrote, Refused as NotWritten}
+use Rattle.export_signon.specs.declared.TvVerdict.{TvVerdict}
+use Rattle.export.specs.declared.TvWritten.{TvWritten}
+use Rattle.export.specs.Numbers.{wrote, notWritten}
+use Rattle.octets.specs.Choice.{if_then_else_}
+
+-- 0002, 0003 and 0004 by their digits, PANEL before them and GRANT behind
+abbrev pub verdictNumber : Verdict → ℕ
+verdictNumber Panel = 1
+verdictNumber NotKnown = 2
+verdictNumber Disabled = 3
+verdictNumber Failed = 4
+verdictNumber Grant = 5
+
+-- the verdict that a number names; any other number is read as 0004
+unfoldable pub verdictNamed : ℕ → Verdict
+verdictNamed n =
+    if eqb n 1 then Panel else
+    if eqb n 2 then NotKnown else
+    if eqb n 3 then Disabled else
+    if eqb n 5 then Grant else
+    Failed
+
+abbrev pub answerNumbers : Answer → TvVerdict
+answerNumbers (Given v) = record { refusal = 0; verdict = verdictNumber v }
+answerNumbers (Refused r) = record { refusal = r; verdict = 0 }
+
+abbrev pub writtenNumbers : Written → TvWritten
+writtenNumbers (Wrote n) = wrote n
+writtenNumbers (NotWritten r) = notWritten r
+
+-- The number of a verdict is read as the verdict.
+abbrev pub NamedBack : Type 0
+NamedBack = (v : Verdict) → verdictNamed (verdictNumber v) ≡ v

@@ -1,0 +1,102 @@
+// Sign-on verdicts and response records, for a caller in C. Each function answers with numbers: which number stands for what is said at the structs and in
+// `specs/Numbers.antt`. A `refusal` is 0 where there is none; else it is the refusal's number, and every other field is 0. A slice is a pointer and a
+// length.
+ghost use mathlib.Core.Path.{_≡_};
+ghost use Rattle.export_signon.specs.Numbers.{verdictNumber, verdictNamed, answerNumbers, writtenNumbers, NamedBack};
+ghost use Rattle.export.specs.Numbers.{numbered};
+ghost use Rattle.signon.specs.Verdict.{answerOf};
+ghost use Rattle.startup_record.specs.Promise.{respondInto};
+ghost use Rattle.octets.specs.Lent.{outcome};
+use export::TvWritten;
+use signon::Answer;
+use signon::Verdict;
+use startup_record::Written;
+
+// A verdict: 1 PANEL, 2 for 0002, 3 for 0003, 4 for 0004, 5 GRANT.
+#[repr(C)]
+pub struct TvVerdict {
+    pub refusal: u8,
+    pub verdict: u8,
+}
+
+fn verdict_number(verdict: Verdict) -> u8
+    ensures { λ r. ⌜ r ≡ verdictNumber verdict ⌝ }
+{
+    match verdict {
+        Verdict::Panel => 1,
+        Verdict::NotKnown => 2,
+        Verdict::Disabled => 3,
+        Verdict::Failed => 4,
+        Verdict::Grant => 5,
+    }
+}
+
+fn verdict_named(number: u8) -> Verdict
+    ensures { λ r. ⌜ r ≡ verdictNamed number ⌝ }
+{
+    match number {
+        1 => Verdict::Panel,
+        2 => Verdict::NotKnown,
+        3 => Verdict::Disabled,
+        5 => Verdict::Grant,
+        _ => Verdict::Failed,
+    }
+}
+
+fn answer_numbers(answer: Answer) -> TvVerdict
+    ensures { λ r. ⌜ r ≡ answerNumbers answer ⌝ }
+{
+    match answer {
+        Answer::Given(verdict) => TvVerdict {
+            refusal: 0,
+            verdict: verdict_number(verdict),
+        },
+        Answer::Refused(n) => TvVerdict {
+            refusal: n,
+            verdict: 0,
+        },
+    }
+}
+
+fn written_numbers(answer: Written) -> TvWritten
+    ensures { λ r. ⌜ r ≡ writtenNumbers answer ⌝ }
+{
+    match answer {
+        Written::Wrote(length) => TvWritten { refusal: 0, length },
+        Written::Refused(n) => TvWritten {
+            refusal: n,
+            length: 0,
+        },
+    }
+}
+
+// The number of a verdict is read as the verdict.
+pub fn verdict_named_back()
+    ensures { λ _. ⌜ NamedBack ⌝ }
+{}
+
+// The verdict on a payload of NEW-ENVIRON, by the server seed and the profile table. Refused by 35, 30 to 32, 3 and 20 to 25.
+#[no_mangle]
+pub extern "C" fn tv_verdict(server_seed: &[u8], table: &[u8], payload: &[u8]) -> TvVerdict
+    ensures { λ r. ⌜ r ≡ answerNumbers (answerOf (now («server_seed» .entry)) (now (table .entry)) (now (payload .entry))) ⌝ }
+{
+    answer_numbers(signon_verdict::verdict(server_seed, table, payload))
+}
+
+// Writes the response record to the front of `out`. A number that is no verdict reads as 4, so that no session is said to have started. Refused by 36 and 4.
+#[no_mangle]
+pub extern "C" fn tv_response(
+    device_fault: bool,
+    verdict: u8,
+    system: &[u8],
+    device: &[u8],
+    out: &mut [u8],
+) -> TvWritten
+    ensures { λ r. ⌜
+        outcome r (now (out .exit))
+        ≡ numbered writtenNumbers (respondInto «device_fault» (verdictNamed verdict) (now (system .entry)) (now (device .entry)) (now (out .entry)))
+        ⌝ }
+{
+    let given = verdict_named(verdict);
+    written_numbers(startup_record::response(device_fault, given, system, device, out))
+}
