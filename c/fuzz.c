@@ -1,0 +1,892 @@
+/*
+ * Random and structured bytes through every call of the archive. After a refusal what was lent is as it was, after an answer nothing behind the
+ * told length has changed, and calls that belong together agree. Every call must be answered, and be refused by each number that the header gives
+ * it, at least once.
+ */
+#include "fuzz.h"
+
+#define LONGEST 4000
+
+/* Events and records. */
+
+static size_t put_event(uint8_t *line, uint8_t what, uint8_t code, uint8_t option, const uint8_t *payload, size_t length)
+{
+	size_t n = 0;
+
+	if (what != TV_DATA)
+		line[n++] = 255;
+	if (what == TV_COMMAND || what == TV_NEGOTIATION)
+		line[n++] = code;
+	if (what == TV_SUBNEGOTIATION)
+		line[n++] = 250;
+	if (what == TV_NEGOTIATION || what == TV_SUBNEGOTIATION)
+		line[n++] = option;
+	for (size_t i = 0; (what == TV_DATA || what == TV_SUBNEGOTIATION) && i < length; i++) {
+		line[n++] = payload[i];
+		if (payload[i] == 255)
+			line[n++] = 255;
+	}
+	if (what == TV_SUBNEGOTIATION) {
+		line[n++] = 255;
+		line[n++] = 240;
+	}
+	return n;
+}
+
+/* A stream of events, or of anything; mostly shorter than so many bytes. */
+static size_t fill_stream(uint8_t *line, size_t limit)
+{
+	uint8_t payload[1100];
+	size_t n = 0, events = below(12);
+
+	if (one_in(3))
+		return fill(line, below(200));
+	while (events-- && n < limit / 2) {
+		size_t length = one_in(60) ? 1000 + below(60) : 1 + below(30);
+		uint8_t code = (uint8_t)(one_in(2) ? TV_EOR : 241 + below(9)), what = (uint8_t)(1 + below(4));
+		if (what == TV_NEGOTIATION)
+			code = (uint8_t)(TV_WILL + below(4));
+		n += put_event(line + n, what, code, (uint8_t)any(), payload, fill(payload, n + 2 * length < limit ? length : 1));
+	}
+	return one_in(2) ? n : disturb(line, n);
+}
+
+/* The bytes from a place up to another, each doubled 255 as one. */
+static size_t undoubled(const uint8_t *from, const uint8_t *to, uint8_t *plain)
+{
+	size_t n = 0;
+
+	for (; from < to; from++) {
+		plain[n++] = *from;
+		from += *from == 255;
+	}
+	return n;
+}
+
+static void same_event(tv_event_t a, tv_event_t b)
+{
+	CHECK(a.what == b.what && a.refusal == b.refusal && a.code == b.code && a.option == b.option);
+	CHECK(a.length == b.length && a.next == b.next);
+}
+
+static tv_event_t look_at(const uint8_t *line, size_t length, size_t at)
+{
+	struct slice s = give(0, line, length);
+	tv_event_t e = tv_look(s.bytes, s.length, at);
+
+	given_as_were();
+	if (!counted(LOOK, e.refusal))
+		same_event(e, (tv_event_t){.refusal = e.refusal});
+	CHECK((e.refusal == 5) == (at > length));
+	CHECK(e.what <= TV_SUBNEGOTIATION && (e.what == TV_END || (e.next > at && e.next <= length)));
+	return e;
+}
+
+/* The event at a place, looked at and read. */
+static tv_event_t try_event(const uint8_t *line, size_t length, size_t at)
+{
+	uint8_t plain[LONGEST];
+	tv_event_t e = look_at(line, length, at), r;
+	size_t room = room_near(e.length);
+	struct slice s = give(0, line, length);
+	uint8_t *out = lend(&out_room, room);
+
+	r = tv_read(s.bytes, s.length, at, out, room);
+	given_as_were();
+	only_front(&out_room, r.length);
+	if (!counted(READ, r.refusal)) {
+		CHECK(r.refusal == (e.refusal ? e.refusal : 4) && (e.refusal || room < e.length));
+		same_event(r, (tv_event_t){.refusal = r.refusal});
+		return e;
+	}
+	same_event(e, r);
+	if (e.what == TV_DATA)
+		CHECK(undoubled(line + at, line + e.next, plain) == e.length);
+	if (e.what == TV_SUBNEGOTIATION)
+		CHECK(undoubled(line + at + 3, line + e.next - 2, plain) == e.length);
+	CHECK(!memcmp(out, plain, e.length));
+	return e;
+}
+
+/* The record from a place on, by its events. */
+static tv_record_t record_by_events(const uint8_t *line, size_t length, size_t at, uint8_t *data)
+{
+	tv_record_t r = {0, 0, 0, 0};
+
+	for (;;) {
+		tv_event_t e = look_at(line, length, at);
+		if (e.refusal || e.what == TV_END)
+			return (tv_record_t){.refusal = e.refusal};
+		if (e.what == TV_DATA)
+			r.length += undoubled(line + at, line + e.next, data + r.length);
+		at = e.next;
+		if (e.what == TV_COMMAND && e.code == TV_EOR)
+			return (tv_record_t){1, 0, r.length, at};
+	}
+}
+
+static void try_record(const uint8_t *line, size_t length, size_t at)
+{
+	uint8_t data[LONGEST];
+	tv_record_t expected = record_by_events(line, length, at, data), r;
+	size_t room = room_near(expected.length);
+	struct slice s = give(0, line, length);
+	uint8_t *out = lend(&out_room, room);
+
+	r = tv_read_record(s.bytes, s.length, at, out, room);
+	given_as_were();
+	only_front(&out_room, r.length);
+	counted(READ_RECORD, r.refusal);
+	if (room < expected.length)
+		expected = (tv_record_t){.refusal = 4};
+	CHECK(r.complete == expected.complete && r.refusal == expected.refusal && r.length == expected.length && r.next == expected.next);
+	CHECK(!memcmp(out, data, r.length));
+}
+
+static void try_stream(void)
+{
+	uint8_t line[LONGEST];
+	size_t length = fill_stream(line, 3200), at = 0;
+
+	for (;;) {
+		tv_event_t e = try_event(line, length, at);
+		if (e.refusal || e.what == TV_END)
+			break;
+		at = e.next;
+	}
+	try_event(line, length, below(length + 5));
+	try_record(line, length, 0);
+	try_record(line, length, below(length + 5));
+}
+
+/* The refusal of what is to be written, by the header's words. */
+static uint8_t refusal_of(uint8_t what, uint8_t code, size_t length)
+{
+	switch (what) {
+	case TV_DATA: return length ? 0 : 7;
+	case TV_COMMAND: return code == TV_EOR || (code > 240 && code < 250) ? 0 : 7;
+	case TV_NEGOTIATION: return code >= TV_WILL && code <= TV_DONT ? 0 : 7;
+	case TV_SUBNEGOTIATION: return length > TV_PAYLOAD_LIMIT ? 3 : 0;
+	default: return 7;
+	}
+}
+
+static void try_write(void)
+{
+	uint8_t payload[1100], line[LONGEST], what = (uint8_t)below(6), code = (uint8_t)(one_in(4) ? any() : 236 + below(20)), option = (uint8_t)any();
+	size_t length = fill(payload, one_in(20) ? 1000 + below(50) : below(40));
+	uint8_t refusal = refusal_of(what, code, length);
+	size_t whole = refusal ? below(20) : put_event(line, what, code, option, payload, length), room = room_near(whole);
+	struct slice s = give(0, payload, length);
+	uint8_t *out = lend(&out_room, room);
+	tv_written_t w = tv_write(what, code, option, s.bytes, s.length, out, room);
+
+	CHECK(w.refusal == (refusal ? refusal : room < whole ? 4 : 0));
+	if (!written(WRITE, w))
+		return;
+	CHECK(w.length == whole && !memcmp(out, line, whole));
+	tv_event_t e = try_event(line, whole, 0);
+	CHECK(e.what == what && e.next == whole);
+	CHECK(e.code == (what == TV_COMMAND || what == TV_NEGOTIATION ? code : 0));
+	CHECK(e.option == (what == TV_NEGOTIATION || what == TV_SUBNEGOTIATION ? option : 0));
+	CHECK(e.length == (what == TV_DATA || what == TV_SUBNEGOTIATION ? length : 0));
+}
+
+/* Listing. */
+
+static size_t line_at(const uint8_t *line, size_t length, size_t at, uint8_t *text)
+{
+	struct slice s = give(0, line, length);
+	uint8_t *out = lend(&out_room, TV_LINE_ROOM);
+	tv_written_t w = tv_line(s.bytes, s.length, at, out, TV_LINE_ROOM);
+
+	CHECK(written(LINE, w) && w.length && out[w.length - 1] == '\n');
+	memcpy(text, out, w.length);
+	if (one_in(4)) {
+		size_t room = below(w.length);
+		s = give(0, line, length);
+		CHECK(!written(LINE, tv_line(s.bytes, s.length, at, lend(&out_room, room), room)));
+	}
+	return w.length;
+}
+
+static void try_list(void)
+{
+	uint8_t line[LONGEST], text[CAPACITY];
+	size_t length = fill_stream(line, 300), at = 0, n = 0;
+	tv_event_t e;
+
+	do {
+		n += line_at(line, length, at, text + n);
+		e = look_at(line, length, at);
+		at = e.next;
+	} while (!e.refusal && e.what != TV_END);
+	line_at(line, length, below(length + 5), text + n);
+
+	size_t room = room_near(n);
+	struct slice s = give(0, line, length);
+	uint8_t *out = lend(&out_room, room);
+	tv_written_t w = tv_list(s.bytes, s.length, out, room);
+	if (written(LIST, w))
+		CHECK(w.length == n && !memcmp(out, text, n));
+	else
+		CHECK(room < n);
+}
+
+/* Options. */
+
+static size_t differing(tv_sides_t a, tv_sides_t b)
+{
+	const uint8_t *x = (const uint8_t *)&a, *y = (const uint8_t *)&b;
+	size_t n = 0;
+
+	for (size_t i = 0; i < sizeof a; i++) {
+		CHECK(y[i] <= TV_SIDE_WANT_ON_THEN_OFF);
+		n += (x[i] <= TV_SIDE_WANT_ON_THEN_OFF ? x[i] : TV_SIDE_OFF) != y[i];
+	}
+	return n;
+}
+
+static tv_sides_t try_step(tv_sides_t sides)
+{
+	static const uint8_t carried[] = {0, 3, 24, 25, 39};
+	uint8_t option = one_in(8) ? (uint8_t)any() : carried[below(5)], code = (uint8_t)(one_in(20) ? any() : TV_WILL + below(4));
+	bool receives = one_in(2), noted;
+	tv_answered_t a = receives ? tv_sides_receive(sides, code, option, one_in(2)) : tv_sides_request(sides, one_in(2), option, one_in(2));
+
+	noted = receives && a.number == TV_NOTE_OFF_ANSWERED_BY_ON;
+	CHECK(a.writes <= 1 && a.option == (a.writes ? option : 0) && (a.writes ? a.code >= TV_WILL && a.code <= TV_DONT : !a.code));
+	if (counted(receives ? SIDES_RECEIVE : SIDES_REQUEST, noted ? 0 : a.number)) {
+		CHECK(differing(sides, a.sides) <= 1);
+		return a.sides;
+	}
+	CHECK(!a.writes);
+	if (receives)
+		CHECK(!memcmp(&a.sides, &sides, sizeof sides));
+	else
+		CHECK(!differing(sides, a.sides));
+	return a.sides;
+}
+
+static void try_sides(void)
+{
+	tv_sides_t sides = tv_sides_fresh();
+
+	counted(SIDES_FRESH, 0);
+	CHECK(!differing((tv_sides_t){.binary = {0, 0}}, sides));
+	if (one_in(4))
+		for (size_t i = 0; i < sizeof sides; i++)
+			((uint8_t *)&sides)[i] = (uint8_t)below(9);
+	for (size_t i = below(12); i; i--)
+		sides = try_step(sides);
+}
+
+/* Environment strings. */
+
+#define NUMBERS (TV_ENV_NUMBERS * (TV_ENV_VARIABLES + 4))
+
+/* Names and values with the records of their variables. */
+struct variables {
+	uint8_t first, bytes[1100];
+	size_t length, count, numbers[NUMBERS];
+};
+
+static uint64_t absent;
+
+static size_t put_escaped(uint8_t *to, const uint8_t *from, size_t length)
+{
+	size_t n = 0;
+
+	for (size_t i = 0; i < length; i++) {
+		if (from[i] < 4 && !one_in(200))
+			to[n++] = 2;
+		to[n++] = from[i];
+	}
+	return n;
+}
+
+/* A payload of some variables, mostly a good one. */
+static size_t fill_payload(uint8_t *payload)
+{
+	uint8_t text[200];
+	size_t n = 0, count = one_in(12) ? 60 + below(8) : below(8);
+
+	payload[n++] = (uint8_t)(2 * below(2));
+	if (one_in(20))
+		return fill(payload, below(200));
+	for (size_t i = 0; i < count && n < 1200; i++) {
+		payload[n++] = (uint8_t)(3 * below(2));
+		n += put_escaped(payload + n, text, fill(text, one_in(3)));
+		payload[n++] = (uint8_t)(one_in(60) ? 'A' : 'A' + i % 64);
+		if (one_in(30))
+			continue;
+		payload[n++] = 1;
+		n += put_escaped(payload + n, text, fill(text, below(one_in(12) ? sizeof text : 8)));
+		if (one_in(200))
+			payload[n++] = 1;
+	}
+	return one_in(2) ? n : disturb(payload, n);
+}
+
+/* The variables that a payload says; with too little room it is refused by 4. */
+static tv_payload_t read_payload(const uint8_t *payload, size_t length, struct variables *v, size_t bytes_room, size_t numbers_room_length)
+{
+	struct slice s = give(0, payload, length);
+	uint8_t *bytes = lend(&out_room, bytes_room);
+	size_t *numbers = (size_t *)(void *)lend(&numbers_room, numbers_room_length * sizeof(size_t));
+	tv_payload_t p = tv_env_read(s.bytes, s.length, bytes, bytes_room, numbers, numbers_room_length);
+
+	given_as_were();
+	only_front(&out_room, p.bytes);
+	only_front(&numbers_room, TV_ENV_NUMBERS * p.variables * sizeof(size_t));
+	if (!counted(ENV_READ, p.refusal)) {
+		CHECK(!p.first && !p.variables && !p.bytes);
+		return p;
+	}
+	v->first = p.first;
+	v->length = p.bytes;
+	v->count = p.variables;
+	memcpy(v->bytes, bytes, p.bytes);
+	memcpy(v->numbers, numbers, TV_ENV_NUMBERS * p.variables * sizeof(size_t));
+	return p;
+}
+
+static tv_written_t write_payload(const struct variables *v, size_t room)
+{
+	struct slice bytes = give(0, v->bytes, v->length), numbers = give(1, v->numbers, TV_ENV_NUMBERS * v->count * sizeof(size_t));
+	uint8_t *out = lend(&out_room, room);
+	tv_written_t w = tv_env_write(v->first, bytes.bytes, bytes.length, (const size_t *)(const void *)numbers.bytes,
+			TV_ENV_NUMBERS * v->count, out, room);
+
+	written(ENV_WRITE, w);
+	return w;
+}
+
+/* Both hold the same kinds, names and values. */
+static void same_variables(const struct variables *a, const struct variables *b)
+{
+	CHECK(a->first == b->first && a->count == b->count);
+	for (size_t i = 0; i < a->count; i++) {
+		const size_t *x = a->numbers + TV_ENV_NUMBERS * i, *y = b->numbers + TV_ENV_NUMBERS * i;
+		CHECK(x[TV_ENV_KIND] == y[TV_ENV_KIND]);
+		CHECK(x[TV_ENV_NAME_LENGTH] == y[TV_ENV_NAME_LENGTH] && x[TV_ENV_VALUE_LENGTH] == y[TV_ENV_VALUE_LENGTH]);
+		CHECK(!memcmp(a->bytes + x[TV_ENV_NAME_AT], b->bytes + y[TV_ENV_NAME_AT], x[TV_ENV_NAME_LENGTH]));
+		CHECK(!memcmp(a->bytes + x[TV_ENV_VALUE_AT], b->bytes + y[TV_ENV_VALUE_AT], x[TV_ENV_VALUE_LENGTH]));
+	}
+}
+
+static tv_value_t value_of(const struct variables *v, size_t kind, const uint8_t *name, size_t name_length)
+{
+	struct slice bytes = give(0, v->bytes, v->length), numbers = give(1, v->numbers, TV_ENV_NUMBERS * v->count * sizeof(size_t));
+	struct slice named = give(2, name, name_length);
+	tv_value_t value = tv_env_value(bytes.bytes, bytes.length, (const size_t *)(const void *)numbers.bytes, TV_ENV_NUMBERS * v->count, kind,
+			named.bytes, named.length);
+
+	given_as_were();
+	counted(ENV_VALUE, 0);
+	CHECK(value.present <= 1 && (value.present || (!value.at && !value.length)));
+	absent += !value.present;
+	return value;
+}
+
+/* One of the variables of a payload that was read is found where its record says. */
+static void try_value(const struct variables *v)
+{
+	const size_t *r = v->numbers + TV_ENV_NUMBERS * below(v->count);
+	tv_value_t value = value_of(v, r[TV_ENV_KIND], v->bytes + r[TV_ENV_NAME_AT], r[TV_ENV_NAME_LENGTH]);
+
+	CHECK(value.present && value.at == r[TV_ENV_VALUE_AT] && value.length == r[TV_ENV_VALUE_LENGTH]);
+	CHECK(value.at + value.length <= v->length);
+	CHECK(!value_of(v, TV_ENV_VAR, (const uint8_t *)"a name that nobody has", 22).present);
+	CHECK(!value_of(v, 1, v->bytes + r[TV_ENV_NAME_AT], r[TV_ENV_NAME_LENGTH]).present);
+}
+
+static void try_env_read(void)
+{
+	static struct variables v, again;
+	uint8_t payload[LONGEST];
+	size_t length = fill_payload(payload), bytes_room, numbers_room_length;
+	tv_payload_t p = read_payload(payload, length, &v, 1024, TV_ENV_NUMBERS * TV_ENV_VARIABLES), q;
+
+	CHECK(p.refusal != 4);
+	bytes_room = room_near(p.bytes);
+	numbers_room_length = room_near(TV_ENV_NUMBERS * p.variables);
+	q = read_payload(payload, length, &again, bytes_room, numbers_room_length);
+	if (p.refusal || bytes_room < p.bytes || numbers_room_length < TV_ENV_NUMBERS * p.variables) {
+		CHECK(q.refusal == (p.refusal ? p.refusal : 4));
+		return;
+	}
+	same_variables(&v, &again);
+	if (v.count)
+		try_value(&v);
+	tv_written_t w = write_payload(&v, 1024);
+	CHECK(!w.refusal || w.refusal == 3);
+	if (w.refusal)
+		return;
+	memcpy(payload, front(&out_room), w.length);
+	CHECK(!read_payload(payload, w.length, &again, 1024, TV_ENV_NUMBERS * TV_ENV_VARIABLES).refusal);
+	same_variables(&v, &again);
+}
+
+/* Records over random bytes, mostly good ones: the first two bytes of each name are its own. */
+static void fill_variables(struct variables *v)
+{
+	v->first = (uint8_t)(one_in(30) ? any() : 2 * below(2));
+	v->length = fill(v->bytes, one_in(12) ? 700 + below(400) : 140 + below(60));
+	v->count = one_in(12) ? 60 + below(8) : below(8);
+	for (size_t i = 0; i < v->count; i++) {
+		size_t *r = v->numbers + TV_ENV_NUMBERS * i;
+		v->bytes[2 * i] = 'A';
+		v->bytes[2 * i + 1] = (uint8_t)('0' + i);
+		r[TV_ENV_KIND] = one_in(200) ? any() : 3 * below(2);
+		r[TV_ENV_NAME_AT] = 2 * (one_in(100) ? 0 : i);
+		r[TV_ENV_NAME_LENGTH] = one_in(200) ? 0 : 2;
+		r[TV_ENV_VALUE_LENGTH] = below(one_in(8) ? v->length : 12);
+		r[TV_ENV_VALUE_AT] = one_in(200) ? any() : below(v->length - r[TV_ENV_VALUE_LENGTH] + 1);
+	}
+}
+
+static void try_env_write(void)
+{
+	static struct variables v, again;
+	uint8_t payload[1024];
+	tv_written_t w, second;
+
+	fill_variables(&v);
+	w = write_payload(&v, 1024);
+	CHECK(w.refusal != 4);
+	if (w.refusal)
+		return;
+	memcpy(payload, front(&out_room), w.length);
+	CHECK(!read_payload(payload, w.length, &again, 1024, TV_ENV_NUMBERS * TV_ENV_VARIABLES).refusal);
+	same_variables(&v, &again);
+	size_t room = room_near(w.length);
+	second = write_payload(&v, room);
+	CHECK(second.refusal == (room < w.length ? 4 : 0));
+}
+
+/* Tokens, profiles and sign-on. */
+
+/* A name and a password with what they give. */
+struct user {
+	uint8_t name[16], password[160], record[TV_RECORD_ROOM];
+	size_t name_length, password_length, record_length;
+	bool enabled, des_allowed;
+};
+
+static uint64_t number_of(const uint8_t *bytes)
+{
+	uint64_t n = 0;
+
+	for (size_t i = 0; i < 8; i++)
+		n = n << 8 | bytes[i];
+	return n;
+}
+
+static uint8_t raised(uint8_t b)
+{
+	return b >= 'a' && b <= 'z' ? (uint8_t)(b - 32) : b;
+}
+
+static tv_written_t make_record(struct user *u, size_t room)
+{
+	struct slice name = give(0, u->name, u->name_length), password = give(1, u->password, u->password_length);
+	uint8_t *out = lend(&out_room, room);
+	tv_written_t w = tv_make_record(name.bytes, name.length, password.bytes, password.length, u->enabled, u->des_allowed, out, room);
+
+	if (written(MAKE_RECORD, w)) {
+		u->record_length = w.length;
+		memcpy(u->record, out, w.length);
+	}
+	return w;
+}
+
+static tv_written_t make_user(struct user *u)
+{
+	u->name_length = fill_name(u->name, 10);
+	u->password_length = fill_password(u->password);
+	u->enabled = !one_in(6);
+	u->des_allowed = !one_in(4);
+	return make_record(u, TV_RECORD_ROOM);
+}
+
+static tv_block_t des_token(const struct user *u)
+{
+	struct slice name = give(0, u->name, u->name_length), password = give(1, u->password, u->password_length);
+	tv_block_t b = tv_des_token(name.bytes, name.length, password.bytes, password.length);
+
+	given_as_were();
+	CHECK(!b.refusal || !b.value);
+	counted(DES_TOKEN, b.refusal);
+	return b;
+}
+
+static tv_written_t sha_token(const struct user *u, size_t room)
+{
+	struct slice name = give(0, u->name, u->name_length), password = give(1, u->password, u->password_length);
+	tv_written_t w = tv_sha_token(name.bytes, name.length, password.bytes, password.length, lend(&out_room, room), room);
+
+	written(SHA_TOKEN, w);
+	return w;
+}
+
+static tv_block_t des_substitute(uint64_t token, const struct user *u, uint64_t server_seed, uint64_t client_seed)
+{
+	struct slice name = give(0, u->name, u->name_length);
+	tv_block_t b = tv_des_substitute(token, name.bytes, name.length, server_seed, client_seed);
+
+	given_as_were();
+	CHECK(!b.refusal || !b.value);
+	counted(DES_SUBSTITUTE, b.refusal);
+	return b;
+}
+
+static tv_written_t sha_substitute(const uint8_t *token, size_t length, const struct user *u, uint64_t server_seed, uint64_t client_seed, size_t room)
+{
+	struct slice stored = give(0, token, length), name = give(1, u->name, u->name_length);
+	tv_written_t w = tv_sha_substitute(stored.bytes, stored.length, name.bytes, name.length, server_seed, client_seed, lend(&out_room, room), room);
+
+	written(SHA_SUBSTITUTE, w);
+	return w;
+}
+
+/* A record has the tokens that the token calls give. */
+static void try_tokens(void)
+{
+	struct user u;
+	uint8_t token[24];
+	tv_written_t made = make_user(&u), w;
+	tv_block_t b = des_token(&u);
+	size_t room = room_near(TV_SHA_LENGTH), length = one_in(10) ? below(sizeof token) : TV_SHA_LENGTH;
+
+	w = sha_token(&u, TV_SHA_LENGTH);
+	CHECK(w.refusal == made.refusal);
+	if (!made.refusal) {
+		const uint8_t *tokens = u.record + 4 + u.name_length;
+		CHECK(made.length == 32 + u.name_length && u.record[3] == u.name_length);
+		for (size_t i = 0; i < u.name_length; i++)
+			CHECK(u.record[4 + i] == raised(u.name[i]));
+		CHECK(u.record[2] == u.enabled + 2 * (u.des_allowed && !b.refusal));
+		CHECK(number_of(tokens) == b.value && !memcmp(tokens + 8, front(&out_room), TV_SHA_LENGTH));
+		CHECK(make_record(&u, below(made.length)).refusal == 4);
+		CHECK(sha_token(&u, room).refusal == (room < TV_SHA_LENGTH ? 4 : 0));
+	} else {
+		CHECK(made.refusal == 33 ? b.refusal == 33 : b.refusal == 34);
+	}
+	fill(token, sizeof token);
+	w = sha_substitute(token, length, &u, any(), any(), room);
+	CHECK(w.refusal == (length != TV_SHA_LENGTH ? 31 : made.refusal == 33 ? 33 : room < TV_SHA_LENGTH ? 4 : 0));
+	CHECK(des_substitute(any(), &u, any(), any()).refusal == (made.refusal == 33 ? 33 : 0));
+}
+
+#define USERS 6
+
+struct profiles {
+	struct user users[USERS];
+	size_t count, length, at[USERS];
+	bool good;
+	uint8_t table[1 + USERS * TV_RECORD_ROOM + 1];
+};
+
+static int in_order(const void *a, const void *b)
+{
+	const struct user *x = a, *y = b;
+	size_t shorter = x->name_length < y->name_length ? x->name_length : y->name_length;
+	int order = memcmp(x->record + 4, y->record + 4, shorter);
+
+	return order ? order : (int)x->name_length - (int)y->name_length;
+}
+
+/* A table of made records, mostly a good one. */
+static void fill_table(struct profiles *p)
+{
+	size_t n = 0;
+
+	p->count = below(USERS + 1);
+	for (size_t i = 0; i < p->count; i++)
+		while (make_user(&p->users[i]).refusal)
+			;
+	if (!one_in(8))
+		qsort(p->users, p->count, sizeof *p->users, in_order);
+	p->good = true;
+	p->table[n++] = TV_TABLE_VERSION;
+	for (size_t i = 0; i < p->count; i++) {
+		p->good = p->good && (!i || in_order(&p->users[i - 1], &p->users[i]) < 0);
+		p->at[i] = n;
+		memcpy(p->table + n, p->users[i].record, p->users[i].record_length);
+		n += p->users[i].record_length;
+	}
+	p->length = n;
+	if (one_in(4)) {
+		p->good = false;
+		p->length = one_in(20) ? fill(p->table, below(50)) : disturb(p->table, n);
+	}
+}
+
+static tv_found_t find(const struct profiles *p, const uint8_t *name, size_t length)
+{
+	struct slice table = give(0, p->table, p->length), named = give(1, name, length);
+	tv_found_t f = tv_table_find(table.bytes, table.length, named.bytes, named.length);
+
+	given_as_were();
+	counted(TABLE_FIND, f.refusal);
+	CHECK(f.present <= !f.refusal && f.enabled <= f.present && f.des_allowed <= f.present && (f.present || !f.at));
+	return f;
+}
+
+static void try_table(void)
+{
+	static struct profiles p;
+	struct slice table;
+	tv_table_t t;
+
+	fill_table(&p);
+	table = give(0, p.table, p.length);
+	t = tv_table_check(table.bytes, table.length);
+	given_as_were();
+	counted(TABLE_CHECK, t.refusal);
+	CHECK(t.refusal ? !t.profiles : t.profiles <= p.count + 1);
+	CHECK(find(&p, (const uint8_t *)"NOBODY-AT-ALL", below(14)).refusal == t.refusal);
+	if (!p.good)
+		return;
+	CHECK(!t.refusal && t.profiles == p.count);
+	for (size_t i = 0; i < p.count; i++) {
+		const struct user *u = &p.users[i];
+		tv_found_t f = find(&p, u->name, u->name_length);
+		CHECK(f.present && f.at == p.at[i] && f.enabled == u->enabled && f.des_allowed == (u->record[2] >> 1));
+	}
+}
+
+static void put_variable(struct variables *v, size_t kind, const char *name, const uint8_t *value, size_t length)
+{
+	size_t *r = v->numbers + TV_ENV_NUMBERS * v->count++;
+
+	r[TV_ENV_KIND] = kind;
+	r[TV_ENV_NAME_AT] = v->length;
+	r[TV_ENV_NAME_LENGTH] = strlen(name);
+	memcpy(v->bytes + v->length, name, strlen(name));
+	v->length += strlen(name);
+	r[TV_ENV_VALUE_AT] = v->length;
+	r[TV_ENV_VALUE_LENGTH] = length;
+	memcpy(v->bytes + v->length, value, length);
+	v->length += length;
+}
+
+static uint64_t verdicts[TV_VERDICT_GRANT + 1];
+
+static uint8_t verdict_on(const uint8_t *seed, size_t seed_length, const struct profiles *p, const uint8_t *payload, size_t length)
+{
+	struct slice s = give(0, seed, seed_length), table = give(1, p->table, p->length), said = give(2, payload, length);
+	tv_judged_t j = tv_verdict(s.bytes, s.length, table.bytes, table.length, said.bytes, said.length);
+
+	given_as_were();
+	CHECK(j.verdict <= TV_VERDICT_GRANT && counted(VERDICT, j.refusal) == (j.verdict != 0));
+	verdicts[j.verdict]++;
+	CHECK(seed_length == TV_SEED_LENGTH || j.refusal == 35);
+	return j.verdict;
+}
+
+/* What a client offers for its password under two seeds: in clear, by DES or by SHA-1. */
+static size_t offer(const struct user *u, size_t way, const uint8_t *server_seed, const uint8_t *client_seed, uint8_t *offered)
+{
+	const uint8_t *tokens = u->record + 4 + u->name_length;
+
+	if (way == 0) {
+		memcpy(offered, u->password, u->password_length);
+		return u->password_length;
+	}
+	if (way == 1) {
+		uint64_t value = des_substitute(number_of(tokens), u, number_of(server_seed), number_of(client_seed)).value;
+		for (size_t i = 0; i < 8; i++)
+			offered[i] = (uint8_t)(value >> (56 - 8 * i));
+		return 8;
+	}
+	CHECK(!sha_substitute(tokens + 8, TV_SHA_LENGTH, u, number_of(server_seed), number_of(client_seed), TV_SHA_LENGTH).refusal);
+	memcpy(offered, front(&out_room), TV_SHA_LENGTH);
+	return TV_SHA_LENGTH;
+}
+
+/* A user of the table signs on: granted exactly if enabled and what is offered is right. */
+static void try_sign_on(const struct profiles *p, const uint8_t *server_seed)
+{
+	static struct variables v;
+	const struct user *u = &p->users[below(p->count)];
+	uint8_t client_seed[8], offered[160];
+	size_t way = below(3), length;
+	bool wrong = one_in(3), unknown = one_in(8), des = u->record[2] >> 1;
+
+	fill(client_seed, sizeof client_seed);
+	client_seed[0] |= 1;
+	length = offer(u, way, server_seed, client_seed, offered);
+	if (wrong)
+		offered[below(length)] ^= (uint8_t)(1 << below(8));
+	v = (struct variables){.first = TV_ENV_IS};
+	put_variable(&v, TV_ENV_VAR, "USER", unknown ? (const uint8_t *)"NOBODY" : u->name, unknown ? 6 : u->name_length);
+	put_variable(&v, TV_ENV_USERVAR, "IBMRSEED", client_seed, way ? 8 : 0);
+	put_variable(&v, TV_ENV_USERVAR, "IBMSUBSPW", offered, length);
+	tv_written_t w = write_payload(&v, 1024);
+	CHECK(!w.refusal);
+	uint8_t payload[1024], verdict;
+	memcpy(payload, front(&out_room), w.length);
+	verdict = verdict_on(server_seed, TV_SEED_LENGTH, p, payload, w.length);
+	CHECK(verdict == (unknown ? TV_VERDICT_NOT_KNOWN : !u->enabled ? TV_VERDICT_DISABLED : wrong || (way == 1 && !des) ? TV_VERDICT_FAILED : TV_VERDICT_GRANT));
+}
+
+static void try_response(void)
+{
+	uint8_t system[16], device[16];
+	size_t system_length = fill_name(system, 8), device_length = fill_name(device, 10), room = room_near(TV_RESPONSE_LENGTH);
+	struct slice s = give(0, system, system_length), d = give(1, device, device_length);
+	uint8_t *out = lend(&out_room, room);
+	tv_written_t w = tv_response(one_in(4), (uint8_t)below(8), s.bytes, s.length, d.bytes, d.length, out, room);
+
+	if (written(RESPONSE, w))
+		CHECK(w.length == TV_RESPONSE_LENGTH && out[0] == 0 && out[1] == TV_RESPONSE_LENGTH && out[2] == 0x12 && out[3] == 0xA0);
+	else
+		CHECK(w.refusal == 36 || room < TV_RESPONSE_LENGTH);
+}
+
+static void try_verdict(void)
+{
+	static struct profiles p;
+	uint8_t seed[16], payload[LONGEST];
+	size_t length = fill_payload(payload);
+
+	fill_table(&p);
+	fill(seed, sizeof seed);
+	verdict_on(seed, one_in(20) ? below(16) : TV_SEED_LENGTH, &p, payload, length);
+	if (p.good && p.count)
+		try_sign_on(&p, seed);
+	if (p.good)
+		CHECK(verdict_on(seed, TV_SEED_LENGTH, &p, (const uint8_t *)"", 1) == TV_VERDICT_PANEL);
+	try_response();
+}
+
+/* Printer frames and the ledger. */
+
+static size_t fill_frame(uint8_t *frame)
+{
+	static const uint8_t flows[] = {0x01, 0x11};
+	size_t header = 4 + below(12), length = 6 + header + below(30);
+
+	fill(frame, length);
+	frame[0] = 0;
+	frame[1] = (uint8_t)length;
+	frame[2] = 0x12;
+	frame[3] = 0xA0;
+	frame[4] = flows[below(2)];
+	frame[5] = (uint8_t)(one_in(6) ? 2 : 1);
+	frame[6] = (uint8_t)header;
+	frame[7] = (uint8_t)(any() & 0xF8);
+	frame[8] = 0;
+	frame[9] = (uint8_t)(1 + one_in(3));
+	if (one_in(6))
+		frame[below(10)] = (uint8_t)any();
+	return one_in(3) ? disturb(frame, length) : one_in(50) ? fill(frame, below(60)) : length;
+}
+
+static tv_frame_t read_frame(const uint8_t *frame, size_t length)
+{
+	struct slice s = give(0, frame, length);
+	tv_frame_t f = tv_read_frame(s.bytes, s.length);
+
+	given_as_were();
+	if (counted(READ_FRAME, f.refusal)) {
+		CHECK(f.diagnostics_at == 10 && f.data_at == f.diagnostics_at + f.diagnostics_length && f.data_at + f.data_length == length);
+		CHECK(f.direction == frame[5] && f.operation == frame[9] && f.diagnostics_included == frame[4] >> 4);
+		CHECK(frame[7] == (f.error << 7 | f.intervention_required << 6 | f.ready << 5 | f.first_of_chain << 4 | f.last_of_chain << 3));
+	} else {
+		CHECK(!f.direction && !f.operation && !f.data_at && !f.data_length && !f.diagnostics_at && !f.diagnostics_length);
+	}
+	return f;
+}
+
+static uint8_t take(uint8_t ledger)
+{
+	uint8_t frame[80], held = ledger == TV_LEDGER_HOLDING;
+	size_t length = fill_frame(frame);
+	tv_frame_t f = read_frame(frame, length);
+	struct slice s = give(0, frame, length);
+	tv_taken_t t = tv_ledger_take(ledger, s.bytes, s.length);
+
+	given_as_were();
+	if (!counted(LEDGER_TAKE, t.refusal)) {
+		CHECK(!t.receipt && t.ledger == held);
+		CHECK(t.refusal == (f.refusal ? f.refusal : f.direction == TV_INBOUND ? 52 : 50));
+	} else if (f.operation == TV_OPERATION_PRINT) {
+		CHECK(t.receipt == TV_RECEIPT_HELD && t.ledger == TV_LEDGER_HOLDING && !held);
+	} else {
+		CHECK(t.receipt == (held ? TV_RECEIPT_CLEARED : TV_RECEIPT_NOTHING_TO_CLEAR) && t.ledger == TV_LEDGER_IDLE);
+	}
+	return t.ledger;
+}
+
+static uint8_t complete(uint8_t ledger)
+{
+	size_t room = room_near(TV_COMPLETE_LENGTH);
+	uint8_t *out = lend(&out_room, room), held = ledger == TV_LEDGER_HOLDING;
+	tv_completed_t c = tv_ledger_complete(ledger, out, room);
+
+	only_front(&out_room, c.length);
+	if (!counted(LEDGER_COMPLETE, c.refusal)) {
+		CHECK(!c.length && c.ledger == held && c.refusal == (held ? 4 : 51));
+		return c.ledger;
+	}
+	uint8_t frame[TV_COMPLETE_LENGTH];
+	CHECK(held && c.ledger == TV_LEDGER_IDLE && c.length == TV_COMPLETE_LENGTH);
+	memcpy(frame, out, sizeof frame);
+	tv_frame_t f = read_frame(frame, sizeof frame);
+	CHECK(!f.refusal && f.direction == TV_INBOUND && f.operation == TV_OPERATION_PRINT);
+	return c.ledger;
+}
+
+static void try_print(void)
+{
+	uint8_t ledger = (uint8_t)(one_in(8) ? any() : TV_LEDGER_IDLE);
+
+	for (size_t i = 1 + below(8); i; i--)
+		ledger = one_in(3) ? complete(ledger) : take(ledger);
+}
+
+static void try_one(void)
+{
+	static void (*const tries[])(void) = {try_stream, try_write, try_list, try_sides, try_env_read, try_env_write, try_tokens, try_table,
+			try_verdict, try_print};
+
+	tries[below(sizeof tries / sizeof *tries)]();
+}
+
+static void tell_counts(void)
+{
+	for (size_t i = 0; i < HOW_MANY; i++) {
+		const uint8_t *r = promises[i].refusals;
+		printf("%-20s answered %6llu", promises[i].name, (unsigned long long)counts[i][0]);
+		for (; *r; r++)
+			printf(", %d: %llu", *r, (unsigned long long)counts[i][*r]);
+		putchar('\n');
+	}
+	for (size_t i = 0; i < HOW_MANY; i++) {
+		CHECK(counts[i][0]);
+		for (const uint8_t *r = promises[i].refusals; *r; r++)
+			CHECK(counts[i][*r]);
+	}
+	for (size_t i = TV_VERDICT_PANEL; i <= TV_VERDICT_GRANT; i++)
+		CHECK(verdicts[i]);
+	CHECK(absent && absent < counts[ENV_VALUE][0]);
+}
+
+/* fuzz [CALLS [SEED]] */
+int main(int argc, char **argv)
+{
+	uint64_t wanted = argc > 1 ? strtoull(argv[1], NULL, 0) : CALLS;
+
+	if (argc > 2)
+		state = strtoull(argv[2], NULL, 0);
+	printf("seed %#llx\n", (unsigned long long)state);
+	make_arenas();
+	while (calls < wanted)
+		try_one();
+	tell_counts();
+	printf("%llu calls\n", (unsigned long long)calls);
+	return 0;
+}
