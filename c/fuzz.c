@@ -104,7 +104,7 @@ static tv_event_t try_event(const uint8_t *line, size_t length, size_t at)
 		CHECK(undoubled(line + at, line + e.next, plain) == e.length);
 	if (e.what == TV_SUBNEGOTIATION)
 		CHECK(undoubled(line + at + 3, line + e.next - 2, plain) == e.length);
-	CHECK(!memcmp(out, plain, e.length));
+	CHECK(!memcmp(front(&out_room), plain, e.length));
 	return e;
 }
 
@@ -140,7 +140,7 @@ static void try_record(const uint8_t *line, size_t length, size_t at)
 	if (room < expected.length)
 		expected = (tv_record_t){.refusal = 4};
 	CHECK(r.complete == expected.complete && r.refusal == expected.refusal && r.length == expected.length && r.next == expected.next);
-	CHECK(!memcmp(out, data, r.length));
+	CHECK(!memcmp(front(&out_room), data, r.length));
 }
 
 static void try_stream(void)
@@ -346,8 +346,8 @@ static tv_payload_t read_payload(const uint8_t *payload, size_t length, struct v
 	v->first = p.first;
 	v->length = p.bytes;
 	v->count = p.variables;
-	memcpy(v->bytes, bytes, p.bytes);
-	memcpy(v->numbers, numbers, TV_ENV_NUMBERS * p.variables * sizeof(size_t));
+	memcpy(v->bytes, front(&out_room), p.bytes);
+	memcpy(v->numbers, front(&numbers_room), TV_ENV_NUMBERS * p.variables * sizeof(size_t));
 	return p;
 }
 

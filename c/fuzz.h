@@ -155,7 +155,7 @@ static uint8_t *lend(struct room *room, size_t length)
 	memset(room->memory, 0xB5, GUARD);
 	memset(room->memory + GUARD + length, 0x5B, GUARD);
 	memcpy(room->before, room->memory, all);
-	return room->memory + GUARD;
+	return length || one_in(2) ? room->memory + GUARD : NULL;
 }
 
 /* Nothing but the first so many bytes of a buffer has changed. */

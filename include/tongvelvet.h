@@ -190,7 +190,8 @@ typedef struct tv_event {
 
 /*
  * A record. Where complete and refusal are both 0 the input ended before an
- * end-of-record: read more from the line and try again from the same place.
+ * end-of-record, and nothing was written: read more from the line and try
+ * again from the same place.
  */
 typedef struct tv_record {
 	uint8_t complete; /* 1 or 0 */
