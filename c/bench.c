@@ -1,6 +1,6 @@
 /*
  * Our calls beside their peers on the same bytes: libtelnet for events, OpenSSL for SHA-1 and DES, each where it is installed. Both are timed by
- * turns in one run; what is told is the median. Before that each peer's answer is compared with ours.
+ * turns in one run; told are the medians of the times, and of the ratios turn by turn. Before that each peer's answer is compared with ours.
  */
 #include <stdio.h>
 #include <stdlib.h>
@@ -18,7 +18,7 @@
 #include <openssl/sha.h>
 #endif
 
-#define RUNS 11
+#define RUNS 21
 #define ORDERS 200
 #define ORDER 300
 
@@ -320,20 +320,21 @@ static double median(double *of)
 /* One row: by the call, or by the byte where there are so many. */
 static void compare(const char *what, void (*ours)(void), const char *peer_name, void (*peer)(void), size_t by)
 {
-	double our_times[RUNS], peer_times[RUNS];
+	double our_times[RUNS], peer_times[RUNS], ratios[RUNS];
 	size_t times = times_for(ours), peer_calls = peer ? times_for(peer) : 0;
 	const char *unit = by > 1 ? "ns/byte" : "ns";
 
 	for (size_t i = 0; i < RUNS; i++) {
 		our_times[i] = timed(ours, times) / (double)by;
 		peer_times[i] = peer ? timed(peer, peer_calls) / (double)by : 0;
+		ratios[i] = peer_times[i] / our_times[i];
 	}
 	printf("| %s | %.*f %s ", what, by > 1 ? 3 : 0, median(our_times), unit);
 	if (!peer) {
 		printf("| not installed | | |\n");
 		return;
 	}
-	printf("| %s | %.*f %s | %.2f |\n", peer_name, by > 1 ? 3 : 0, median(peer_times), unit, median(peer_times) / median(our_times));
+	printf("| %s | %.*f %s | %.2f |\n", peer_name, by > 1 ? 3 : 0, median(peer_times), unit, median(ratios));
 }
 
 /* Both ends agree on what they are timed over. */
