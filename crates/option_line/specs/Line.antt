@@ -13,6 +13,9 @@ use Rattle.telnet.specs.declared.Kind.{Kind}
 use Rattle.telnet.specs.declared.Kind.the-variants.{Data, Command as Simple, Negotiation, Subnegotiation}
 use Rattle.telnet.specs.Event.{negotiation}
 use Rattle.telnet.specs.Write.{written}
+use Rattle.telnet_reader.specs.declared.Answer.{Answer}
+use Rattle.telnet_reader.specs.declared.Answer.the-variants.{End, Found, Refused}
+use Rattle.telnet_reader.specs.Promise.{lookAt}
 use Rattle.option_rules.specs.declared.Command.{Command}
 use Rattle.option_sides.specs.declared.Whose.{Whose}
 use Rattle.option_sides.specs.declared.Sides.{Sides}
@@ -53,3 +56,19 @@ receivedOn s v o accept line at = sentBy s (received s v o accept) line at
 -- a request of this end, and its command
 abbrev pub requestedOn : Sides → Whose → ℕ → Command → List ℕ → ℕ → Outcome Sent
 requestedOn s w o c line at = sentBy s (requested s w o c) line at
+
+-- an event from the other end: an option command is answered, any other concerns no option
+abbrev pub heardEvent : Sides → Kind → Bool → List ℕ → ℕ → Outcome Sent
+heardEvent s (Negotiation v o) accept line at = receivedOn s v o accept line at
+heardEvent s Data accept line at = outcome (sent s 0 at) line
+heardEvent s (Simple c) accept line at = outcome (sent s 0 at) line
+heardEvent s (Subnegotiation o) accept line at = outcome (sent s 0 at) line
+
+abbrev pub heardAs : Sides → Answer → Bool → List ℕ → ℕ → Outcome Sent
+heardAs s End accept line at = outcome (sent s 0 at) line
+heardAs s (Found k l next) accept line at = heardEvent s k accept line at
+heardAs s (Refused n) accept line at = outcome (sent s n at) line
+
+-- what stands at a place of the other end's line, heard: the reader's refusals are this one's
+unfoldable pub heardOn : Sides → List ℕ → ℕ → Bool → List ℕ → ℕ → Outcome Sent
+heardOn s heard from accept line at = heardAs s (lookAt heard from) accept line at

@@ -6,7 +6,7 @@ ghost use Rattle.octets.specs.Lent.{outcome};
 ghost use Rattle.octets.specs.Promise.{putAt};
 ghost use Rattle.telnet.specs.Event.{negotiation};
 ghost use Rattle.telnet.specs.Write.{written};
-ghost use Rattle.option_line.specs.Line.{commandBytes, sentBy, receivedOn, requestedOn};
+ghost use Rattle.option_line.specs.Line.{commandBytes, sent, sentBy, receivedOn, requestedOn, heardEvent, heardOn};
 use option_rules::Command;
 use option_sides::Answered;
 use option_sides::Outgoing;
@@ -14,12 +14,23 @@ use option_sides::Sides;
 use option_sides::Whose;
 use telnet::Kind;
 use telnet::Verb;
+use telnet_reader::Answer;
 
 // The sides afterwards; a number that is 0, a note or a refusal; and the place behind what was put on the line.
 pub struct Sent {
     pub sides: Sides,
     pub number: u8,
     pub place: usize,
+}
+
+fn after(sides: Sides, number: u8, place: usize) -> Sent
+    ensures { λ r. ⌜ r ≡ sent sides number place ⌝ }
+{
+    Sent {
+        sides,
+        number,
+        place,
+    }
 }
 
 // An option command has three bytes.
@@ -121,4 +132,45 @@ pub fn request(
 {
     let answered = sides.request(whose, option, command);
     send(sides, answered, line, at)
+}
+
+// An option command is answered; any other event concerns no option.
+fn hear_event(sides: Sides, kind: Kind, accept: bool, line: &mut [u8], at: usize) -> Sent
+    ensures { λ r. ⌜
+        outcome r (now (line .exit)) ≡ heardEvent sides kind accept (now (line .entry)) at
+        ⌝ }
+{
+    match kind {
+        Kind::Negotiation(verb, option) => {
+            return receive(sides, verb, option, accept, line, at);
+        }
+        Kind::Data => return after(sides, 0, at),
+        Kind::Command(_) => return after(sides, 0, at),
+        Kind::Subnegotiation(_) => return after(sides, 0, at),
+    }
+}
+
+// This end hears what stands at a place of the other's line, and answers it on its own line if it is an option command. What cannot be read is refused
+// by the reader's number.
+pub fn hear(
+    sides: Sides,
+    heard: &[u8],
+    from: usize,
+    accept: bool,
+    line: &mut [u8],
+    at: usize,
+) -> Sent
+    ensures { λ r. ⌜
+        outcome r (now (line .exit)) ≡ heardOn sides (now (heard .entry)) from accept (now (line .entry)) at
+        ⌝ }
+{
+    match telnet_reader::look(heard, from) {
+        Answer::Found {
+            kind,
+            length: _,
+            next: _,
+        } => return hear_event(sides, kind, accept, line, at),
+        Answer::End => return after(sides, 0, at),
+        Answer::Refused(n) => return after(sides, n, at),
+    }
 }

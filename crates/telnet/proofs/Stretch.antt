@@ -3,7 +3,7 @@
 use mathlib.Core.Path.{_≡_, refl, ap, _∙_}
 use mathlib.Core.Bool.{Bool, true, false}
 use mathlib.Core.List.{List, [], _∷_, _++_, append-nil}
-use Prim.Native.Nat.{ℕ, _+_, _≤_, _<_}
+use Prim.Native.Nat.{ℕ, suc, _+_, _≤_, _<_}
 use native.Mathlib.Omega.{arith}
 use borrow.Author.Tests.{eqb-true, lt-ltb}
 use lib.Dec.{eqb}
@@ -33,6 +33,16 @@ doubled-other b d e = rw e
 pub doubled-iac : (b : ℕ) (d : List ℕ) → eqb b iac ≡ true → doubled (b ∷ d) ≡ b ∷ b ∷ doubled d
 unfolding doubled
 doubled-iac b d e = rw e
+
+-- doubling takes no byte away
+pub doubled-longer : (d : List ℕ) → length d ≤ length (doubled d)
+unfolding doubled
+doubled-longer [] = omega arith
+doubled-longer (b ∷ d) = go (eqb b iac) (doubled-longer d)
+  where
+    go : (t : Bool) → length d ≤ length (doubled d) → suc (length d) ≤ length (if t then b ∷ b ∷ doubled d else b ∷ doubled d)
+    go true h = omega arith
+    go false h = omega arith
 
 pub doubled-append : (c d : List ℕ) → doubled (c ++ d) ≡ doubled c ++ doubled d
 unfolding doubled

@@ -6,16 +6,26 @@ use Prim.Native.Nat.{ℕ, suc, _+_, _≤_, _<_}
 use native.Mathlib.Nat.{not-suc-le-zero, add-zero}
 use native.Mathlib.Omega.{arith}
 use lib.Dec.{eqb}
-use lib.ListN.{length, drop, getD, length-drop, drop-of-length-le}
+use lib.ListN.{length, drop, getD, length-append, length-drop, drop-of-length-le}
 use lib.Seq.{drop-drop, getD-drop}
 use borrow.Author.Tests.{eq-eqb, ne-eqb, eqb-true}
 use Rattle.octets.proofs.Front.{at-front, pair-front}
 use Rattle.telnet.specs.Event.{iac}
 use Rattle.telnet.specs.Write.{doubled}
 use Rattle.telnet.specs.Read.{undoubled}
+use Rattle.telnet.proofs.Stretch.{doubled-longer, stretch}
 use Rattle.telnet_data.specs.declared.Extent.{Extent}
 use Rattle.telnet_data.specs.Promise.{count, span, extentAt}
 use Rattle.telnet_data.specs.near.Width.{width}
+
+-- a stretch lies within its bytes, and carries no more
+pub span-within : (bs : List ℕ) → span bs ≤ length bs
+unfolding span
+span-within bs = omega (arith, simp length-append at (ap length (stretch bs .whole)))
+
+pub count-within : (bs : List ℕ) → count bs ≤ length bs
+unfolding count span
+count-within bs = omega (arith, doubled-longer (undoubled bs), span-within bs)
 
 -- a data byte stands at the front: the stretch is that byte and the stretch behind it
 record Unit-at (bs : List ℕ) : Type 0 where

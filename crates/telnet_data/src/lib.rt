@@ -3,7 +3,7 @@
 ghost use mathlib.Core.Path.{_≡_};
 ghost use lib.ListN.{drop};
 ghost use Rattle.octets.specs.Lent.{outcome};
-ghost use Rattle.telnet_data.specs.Promise.{extentAt, copyInto};
+ghost use Rattle.telnet_data.specs.Promise.{extentAt, copyInto, copyRun};
 ghost use Rattle.telnet_data.specs.near.Width.{width};
 
 // The stretch of data at a place: how many bytes it carries, and the place behind it.
@@ -68,4 +68,35 @@ pub fn copy(s: &[u8], from: usize, count: usize, out: &mut [u8], to: usize) -> b
         k += 1;
     }
     true
+}
+
+// Copies the longest stretch of data at a place, each doubled 255 as one, to a place of the buffer, and tells it as `measure` does. One pass finds and
+// copies it, so room is asked for all that is left of the line; where there is none, copies nothing and tells an empty stretch.
+pub fn copy_run(s: &[u8], at: usize, out: &mut [u8], to: usize) -> Extent
+    ensures { λ r. ⌜ outcome r (now (out .exit)) ≡ copyRun (now (s .entry)) at (now (out .entry)) to ⌝ }
+{
+    if s.len() < at {
+        return Extent { count: 0, end: at };
+    }
+    if octets::no_room(s.len() - at, to, out.len()) {
+        return Extent { count: 0, end: at };
+    }
+    let mut i = at;
+    let mut k = to;
+    while i < s.len() {
+        let w = width_at(s, i);
+        if w == 0 {
+            return Extent {
+                count: k - to,
+                end: i,
+            };
+        }
+        out[k] = s[i];
+        i += w;
+        k += 1;
+    }
+    Extent {
+        count: k - to,
+        end: i,
+    }
 }

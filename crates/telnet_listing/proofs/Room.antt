@@ -25,7 +25,8 @@ use Rattle.telnet.specs.Event.{Event, run, command, negotiation, subnegotiation
 use Rattle.telnet.specs.Write.{doubled, written}
 use Rattle.telnet.specs.Read.{undoubled, Front, noEvent, found, refused, closed, afterSb, afterVerb, afterLead, afterIac, runOr, eventOf}
 use Rattle.telnet_reader.specs.Promise.{answered}
-use Rattle.telnet_reader.proofs.Places.{doubled-longer, looked}
+use Rattle.telnet_reader.proofs.Places.{looked}
+use Rattle.telnet.proofs.Stretch.{doubled-longer}
 use Rattle.telnet_reader.proofs.Carried.{Carries, none, not-found, carries, event-carries}
 use Rattle.telnet_line.specs.Line.{said, verbName, commandText, text, endingText, answerText, line}
 use Rattle.telnet_listing.specs.Listing.{listing}

@@ -3,11 +3,12 @@ use mathlib.Core.Path.{_≡_, refl, sym, ap, subst, _∙_}
 use mathlib.Core.Bool.{Bool, true, false}
 use mathlib.Core.List.{List, [], _∷_}
 use Prim.Native.Nat.{ℕ, _+_, _-_, _≤_, _<_}
+use native.Mathlib.Nat.{add-zero}
 use native.Mathlib.Omega.{arith}
 use lib.Dec.{eqb, ltb}
 use lib.ListN.{length, drop, length-append, length-drop}
 use lib.Seq.{drop-drop}
-use borrow.Author.Tests.{ltb-false}
+use borrow.Author.Tests.{ltb-false, le-ltb}
 use Rattle.octets.specs.Choice.{if_then_else_}
 use Rattle.octets.proofs.Choice.{choice}
 use Rattle.octets.specs.Lent.{Outcome, outcome, overwrite}
@@ -15,13 +16,16 @@ use Rattle.telnet.specs.declared.Lead.{Lead}
 use Rattle.telnet.specs.declared.Lead.the-variants.{Faulty, Opens, Negotiates, Simple}
 use Rattle.telnet_reader.specs.declared.Answer.{Answer}
 use Rattle.telnet_reader.specs.declared.Answer.the-variants.{End, Found, Refused}
+use Rattle.telnet.specs.declared.Kind.the-variants.{Data}
 use Rattle.telnet.specs.Event.{Event, run, command, negotiation, kind, carriedBytes, lead, se, payloadLimit}
 use Rattle.telnet.specs.Write.{written, doubled}
 use Rattle.telnet.specs.Read.{undoubled, Front, noEvent, found, refused, closed, afterSb, afterVerb, afterLead, afterIac, runOr, eventOf}
-use Rattle.telnet_data.specs.Promise.{span}
+use Rattle.telnet_data.specs.Promise.{count, span}
 use Rattle.telnet_reader.specs.near.Lead.{leadIn}
 use Rattle.telnet.specs.Record.{dataOf}
-use Rattle.telnet_reader.proofs.Places.{span-within, doubled-longer}
+use Rattle.telnet.proofs.Stretch.{doubled-longer}
+use Rattle.telnet_data.proofs.Widths.{span-within, count-within}
+use Rattle.telnet_reader.proofs.Places.{look-run}
 use Rattle.telnet_reader.specs.Promise.{answered, lookAt, delivered, readAt}
 use Rattle.refusal.specs.Refusal.{noRoom, pastTheEnd}
 
@@ -131,3 +135,10 @@ module _ (s : List ℕ) (at : ℕ) where
           ≡ delivering s at out (if t then Refused pastTheEnd else answered at (eventOf (drop at s)))
       go true = refl
       go false = delivers out (eventOf (drop at s)) (event-carries (drop at s))
+
+  -- a run for which there is room
+  pub read-run : (out : List ℕ) → 0 < count (drop at s) → count (drop at s) ≤ length out
+      → readAt s at out ≡ outcome (Found Data (count (drop at s)) (at + span (drop at s))) (overwrite out 0 (undoubled (drop at s)))
+  read-run out h g =
+      let within : at ≤ length s = omega (arith, count-within (drop at s), length-drop at s) in
+      read-delivers out ∙ ap (delivering s at out) (look-run s at within h) ∙ rw (le-ltb (length out) (count (drop at s)) g, add-zero at)

@@ -1,15 +1,13 @@
 -- What stands at a place, by the bytes there: the laws that each way out of the reader cites. Assumes nothing.
 use mathlib.Core.Path.{_≡_, refl, sym, ap, _∙_}
-use mathlib.Core.Bool.{Bool, true, false}
 use mathlib.Core.List.{List, [], _∷_}
-use Prim.Native.Nat.{ℕ, suc, _+_, _≤_, _<_}
+use Prim.Native.Nat.{ℕ, _+_, _≤_, _<_}
 use native.Mathlib.Nat.{add-assoc}
 use native.Mathlib.Omega.{arith}
 use lib.ListN.{length, drop, getD, length-append, length-drop, drop-of-length-le}
 use lib.Seq.{drop-drop}
 use lib.Dec.{eqb}
 use borrow.Author.Tests.{eq-eqb, ne-eqb, lt-ltb, le-ltb}
-use Rattle.octets.specs.Choice.{if_then_else_}
 use Rattle.refusal.specs.Refusal.{cutShort, payloadTooLong, undoubled as undoubledIac, pastTheEnd}
 use Rattle.telnet.specs.declared.Verb.{Verb}
 use Rattle.telnet.specs.declared.Lead.{Lead}
@@ -20,23 +18,7 @@ use Rattle.telnet.specs.Write.{doubled, written}
 use Rattle.telnet.specs.Read.{undoubled, afterVerb, afterSb, closed, afterIac, afterLead, eventOf, runOr, Front}
 use Rattle.telnet_data.specs.Promise.{count, span}
 use Rattle.telnet_reader.specs.Promise.{answered, lookAt}
-use Rattle.telnet.proofs.Stretch.{stretch}
 use Rattle.octets.proofs.Front.{empty, at-front, pair-front}
-
--- doubling takes no byte away
-pub doubled-longer : (d : List ℕ) → length d ≤ length (doubled d)
-unfolding doubled
-doubled-longer [] = omega arith
-doubled-longer (b ∷ d) = go (eqb b iac) (doubled-longer d)
-  where
-    go : (t : Bool) → length d ≤ length (doubled d) → suc (length d) ≤ length (if t then b ∷ b ∷ doubled d else b ∷ doubled d)
-    go true h = omega arith
-    go false h = omega arith
-
--- a stretch lies within its bytes
-pub span-within : (bs : List ℕ) → span bs ≤ length bs
-unfolding span
-span-within bs = omega (arith, simp length-append at (ap length (stretch bs .whole)))
 
 -- behind a stretch at place i
 pub behind : (s : List ℕ) (i : ℕ) → drop (length (doubled (undoubled (drop i s)))) (drop i s) ≡ drop (i + span (drop i s)) s

@@ -143,8 +143,8 @@ fn data_place(kind: Kind, at: usize) -> usize
     }
 }
 
-// The event at a place, with the bytes that it carries copied to the front of the buffer.
-pub fn read(s: &[u8], at: usize, out: &mut [u8]) -> Answer
+// The event at a place, looked at first, and then the bytes that it carries copied to the front of the buffer.
+fn deliver(s: &[u8], at: usize, out: &mut [u8]) -> Answer
     ensures { λ r. ⌜ outcome r (now (out .exit)) ≡ readAt (now (s .entry)) at (now (out .entry)) ⌝ }
 {
     let answer = look(s, at);
@@ -163,4 +163,21 @@ pub fn read(s: &[u8], at: usize, out: &mut [u8]) -> Answer
             return Answer::Refused(n);
         }
     }
+}
+
+// The event at a place, with the bytes that it carries copied to the front of the buffer. A run is found and copied in one pass where there is room for all
+// that is left of the input.
+pub fn read(s: &[u8], at: usize, out: &mut [u8]) -> Answer
+    ensures { λ r. ⌜ outcome r (now (out .exit)) ≡ readAt (now (s .entry)) at (now (out .entry)) ⌝ }
+{
+    let run = telnet_data::copy_run(s, at, out, 0);
+    let count = run.count;
+    if 0 < count {
+        return Answer::Found {
+            kind: Kind::Data,
+            length: count,
+            next: run.end,
+        };
+    }
+    deliver(s, at, out)
 }

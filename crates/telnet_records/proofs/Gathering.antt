@@ -11,6 +11,7 @@ use lib.Seq.{drop-drop}
 use borrow.Author.Tests.{lt-ltb, le-ltb}
 use Rattle.octets.specs.Choice.{if_then_else_}
 use Rattle.octets.specs.Lent.{Outcome, outcome, overwrite}
+use Rattle.octets.proofs.Overwrite.{overwrite-append}
 use Rattle.refusal.specs.Refusal.{noRoom, pastTheEnd}
 use Rattle.telnet.specs.declared.Kind.{Kind}
 use Rattle.telnet_reader.specs.declared.Answer.the-variants.{End, Found, Refused}
@@ -23,10 +24,11 @@ use Rattle.telnet.specs.Whole.{well, refusal}
 use Rattle.telnet.specs.Record.{isEndOfRecord, dataOf, Gathered, complete, noRecord, withEvent, gathered, recordOf}
 use Rattle.telnet_reader.specs.Promise.{answered, lookAt}
 use Rattle.telnet_records.specs.Promise.{answerNoRecord, kept, recordAt}
-use Rattle.telnet_records.specs.near.Gather.{dataLength, endsRecord, sized, sizedAt, recordData, dataAt}
+use Rattle.telnet_records.specs.near.Gather.{dataLength, endsRecord, sized, sizedAt, recordData, dataAt, CanCopy, Copied}
 use Rattle.telnet.specs.Theorems.{readOn}
 use Rattle.telnet.proofs.Unroll.{unrolled}
-use Rattle.telnet_reader.proofs.Places.{looked, doubled-longer}
+use Rattle.telnet_reader.proofs.Places.{looked}
+use Rattle.telnet.proofs.Stretch.{doubled-longer}
 use Rattle.telnet_reader.proofs.Carried.{event-stands}
 
 -- the record at the front, by what stands there
@@ -197,6 +199,25 @@ module _ (s : List ℕ) (i : ℕ) (h : i ≤ length s) where
         ap (sized n i) (record-goes (drop i s) (v .event) (v .is) goes ∙ ap (λ bs. withEvent (v .event) (recordOf bs)) (drop-drop w i s))
         ∙ sized-joined n i (v .event) (recordOf (drop (i + w) s))
         ∙ ap₂ (λ m j. sized (n + m) j (recordOf (drop j s))) (sym added) (sym (v .its-next))
+
+-- the data of an event that `look` found, put where there is room for the record's
+pub event-copied : (s : List ℕ) (i : ℕ) (out : List ℕ) (to : ℕ) → CanCopy s i out to → (k : Kind) (l x : ℕ) → lookAt s i ≡ Found k l x
+    → {n : ℕ} {out′ : List ℕ} → n ≡ length (undoubled (drop i s)) → out′ ≡ overwrite out to (undoubled (drop i s))
+    → Copied s i out to out′ (record { count = to + n; end = x })
+event-copied s i out to p k l x e m put =
+    let f = found-further s i (p .within) k l x e in
+    let d = data-goes s i (p .within) k l x e (p .some) in
+    let here = undoubled (drop i s) in
+    let behind = dataAt s x in
+    let all = ap length (d .1) ∙ length-append here behind in
+    record {
+      ahead = f .0;
+      within = f .1;
+      whole = omega (arith, all, m);
+      same =
+          ap₂ (λ o j. overwrite o (to + j) behind) put m
+          ∙ overwrite-append out to here behind (omega (arith, p .room, all)) ∙ ap (overwrite out to) (sym (d .1));
+    }
 
 -- what `read_record` leaves, by what was found
 abbrev pub keeping : List ℕ → ℕ → List ℕ → Record → Outcome Record

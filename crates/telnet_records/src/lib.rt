@@ -95,8 +95,8 @@ fn find_record(s: &[u8], at: usize) -> Record
     Record::Unfinished
 }
 
-// Copies what the event at a place adds to a record, behind `to` bytes of it.
-fn copy_event(s: &[u8], at: usize, out: &mut [u8], to: usize) -> Extent
+// Copies what the event at a place adds to a record, behind `to` bytes of it. The event is looked at first.
+fn copy_looked(s: &[u8], at: usize, out: &mut [u8], to: usize) -> Extent
     requires { ⌜ CanCopy (now s) at (now out) to ⌝ }
     ensures { λ r. ⌜ Copied (now (s .entry)) at (now (out .entry)) to (now (out .exit)) r ⌝ }
 {
@@ -116,6 +116,23 @@ fn copy_event(s: &[u8], at: usize, out: &mut [u8], to: usize) -> Extent
             return Extent { count: to, end: at };
         }
     }
+}
+
+// Copies what the event at a place adds to a record, behind `to` bytes of it. A run is found and copied in one pass where there is room for all that is
+// left of the input.
+fn copy_event(s: &[u8], at: usize, out: &mut [u8], to: usize) -> Extent
+    requires { ⌜ CanCopy (now s) at (now out) to ⌝ }
+    ensures { λ r. ⌜ Copied (now (s .entry)) at (now (out .entry)) to (now (out .exit)) r ⌝ }
+{
+    let run = telnet_data::copy_run(s, at, out, to);
+    let count = run.count;
+    if 0 < count {
+        return Extent {
+            count: to + count,
+            end: run.end,
+        };
+    }
+    copy_looked(s, at, out, to)
 }
 
 // Copies the data of the record from a place on, of which there are `total` bytes.

@@ -1,109 +1,70 @@
--- `telnet_records::copy_event` meets its contract. Assumes nothing.
-use mathlib.Core.Path.{_≡_, sym, ap, ap₂, _∙_}
-use Prim.Native.Nat.{_+_, _≤_}
+-- `telnet_records::copy_event` meets its contract: a run that was copied is the event's data, and where none was the buffer is as it was.
+-- Assumes nothing.
+use mathlib.Core.Path.{sym, ap₂, subst, _∙_}
+use mathlib.Core.List.{List}
+use Prim.Native.Nat.{ℕ}
 use native.Mathlib.Omega.{arith}
-use lib.ListN.{length, drop, length-append}
-use Rattle.octets.specs.Lent.{overwrite}
-use Rattle.octets.proofs.Overwrite.{overwrite-append}
-use Rattle.telnet.specs.Read.{undoubled}
-use Rattle.telnet_data.proofs.Copies.{copy-whole}
-use Rattle.telnet_records.specs.near.Gather.{dataAt}
-use Rattle.telnet_records.proofs.Gathering.{data-end, data-refused, data-goes, found-further}
 use borrow.Author.Needs.{needs}
+use Rattle.telnet.specs.declared.Kind.the-variants.{Data}
+use Rattle.telnet_data.specs.Promise.{count}
+use Rattle.telnet_data.proofs.Copies.{RunCopied, run-none, run-whole}
+use Rattle.telnet_reader.specs.declared.Answer.the-variants.{Found}
+use Rattle.telnet_reader.proofs.Places.{look-run}
+use Rattle.telnet_records.specs.near.Gather.{Copied}
+use Rattle.telnet_records.proofs.Gathering.{event-copied}
 use Rattle.telnet_records.proofs.copy_event.Statement.{statement}
 use Rattle.telnet_records.proofs.copy_event.Tie as tie
 
--- what the event adds stands at the place, and has room
-added : (c : tie.After-data-length)
-    → (c .data-length .result
-    ≡ length (undoubled (drop (c .before .before .before .before .before .before .before .args .at)
-    (c .before .before .before .before .before .before .before .args .s .now))))
-    × (c .before .before .before .before .before .before .before .args .to + c .data-length .result
-    ≤ length (c .before .before .before .before .before .before .before .args .out .now))
-added c =
+-- the run that was copied
+run : (c : tie.Then1)
+    → RunCopied (c .before .before .before .before .before .before .before .args .s .now) (c .before .before .before .before .before .before .before .args .at)
+    (c .before .before .before .before .before .before .before .args .out .now) (c .before .before .before .before .before .before .before .args .to)
+    (c .before .before .before .copy-run .result) (c .before .before .before .copy-run .last .1 .1 .0)
+run c =
     let a = c .before .before .before .before .before .before .before .args in
-    let p = c .before .before .before .before .before .before .before .pre in
-    let v = c .before .before .kind .given .0 in
-    let e = sym (c .before .before .before .before .look .ensures) ∙ c .before .before .kind .given .1 in
-    let d = data-goes (a .s .now) (a .at) (p .within) (v .0) (v .1 .0) (v .1 .1 .0) e (p .some) in
-    let all = ap length (d .1) ∙ length-append (undoubled (drop (a .at) (a .s .now))) (dataAt (a .s .now) (v .1 .1 .0)) in
-    (c .data-length .ensures ∙ d .0, omega (arith, c .data-length .ensures, d .0))
+    run-whole (a .s .now) (a .at) (a .out .now) (a .to) (c .before .before .before .copy-run .ensures) (omega arith)
 
-look-requires : tie.Need-look-requires
-look-requires c κs = search needs
+copy-run-requires : tie.Need-copy-run-requires
+copy-run-requires c κs = search needs
 
-enum-known-kind : tie.Need-enum-known-kind
-enum-known-kind c = search needs
-
-data-length-requires : tie.Need-data-length-requires
-data-length-requires c κs = search needs
-
-copy-requires : tie.Need-copy-requires
-copy-requires c κs = search needs
-
-add-t13 : tie.Need-add-t13
-add-t13 c = omega (arith, added (c .before .before .before .before))
+add-t10 : tie.Need-add-t10
+add-t10 c = omega (arith, run c .told .counted, run c .room)
 
 same-length : tie.Need-same-length
 same-length c = search needs
 
 returns : tie.Need-returns
+unfolding count
 returns c =
-    let a = c .before .before .before .before .before .before .before .before .before .before .before .args in
-    let v = c .before .before .before .before .before .before .kind .given .0 in
-    let p = c .before .before .before .before .before .before .before .before .before .before .before .pre in
-    let looked = sym (c .before .before .before .before .before .before .before .before .look .ensures)
-    ∙ c .before .before .before .before .before .before .kind .given .1 in
-    let f = found-further (a .s .now) (a .at) (p .within) (v .0) (v .1 .0) (v .1 .1 .0) looked in
-    let d = data-goes (a .s .now) (a .at) (p .within) (v .0) (v .1 .0) (v .1 .1 .0) looked (p .some) in
-    let here = undoubled (drop (a .at) (a .s .now)) in
-    let behind = dataAt (a .s .now) (v .1 .1 .0) in
-    let n = added (c .before .before .before .before) .0 in
-    let room = added (c .before .before .before .before) .1 in
-    let copied = copy-whole (a .s .now) (a .at) (c .before .before .before .before .data-length .result) (a .out .now) (a .to) room n
-    (c .before .before .copy .ensures) in
-    let all = ap length (d .1) ∙ length-append here behind in
-    record {
-      ahead = f .0;
-      within = f .1;
-      whole = omega arith;
-      same =
-          ap₂ (λ o k. overwrite o (a .to + k) behind) copied n
-          ∙ overwrite-append (a .out .now) (a .to) here behind (omega arith) ∙ ap (overwrite (a .out .now) (a .to)) (sym (d .1));
-    }
+    let a = c .before .before .before .before .before .before .before .args in
+    let p = c .before .before .before .before .before .before .before .pre in
+    let told = run c .told in
+    let r = c .before .before .before .copy-run .result in
+    let e = look-run (a .s .now) (a .at) (p .within) (omega (arith, told .counted)) ∙ sym (ap₂ (Found Data) (told .counted) (told .ended)) in
+    event-copied (a .s .now) (a .at) (a .out .now) (a .to) p Data (r .count) (r .end) e (told .counted) (run c .lent)
 
-enum-told : tie.Need-enum-told
-enum-told c = search needs
+copy-looked-requires : tie.Need-copy-looked-requires
+copy-looked-requires c κs = search needs
+
+same-length-2 : tie.Need-same-length-2
+same-length-2 c = search needs
 
 returns-2 : tie.Need-returns-2
 returns-2 c =
-    let a = c .before .before .before .before .before .args in
-    let p = c .before .before .before .before .before .pre in
-    let e = sym (c .before .before .look .ensures) ∙ c .enum-told .given .1 in
-    absurd (omega (arith, p .some, ap length (data-end (a .s .now) (a .at) (p .within) e)))
-
-enum-told-2 : tie.Need-enum-told-2
-enum-told-2 c = search needs
-
-returns-3 : tie.Need-returns-3
-returns-3 c =
-    let a = c .before .before .before .before .before .args in
-    let p = c .before .before .before .before .before .pre in
-    let e = sym (c .before .before .look .ensures) ∙ c .enum-told2 .given .1 in
-    absurd (omega (arith, p .some, ap length (data-refused (a .s .now) (a .at) (p .within) (c .enum-told2 .given .0 .0) e)))
+    let a = c .before .before .before .before .before .before .before .before .before .before .before .args in
+    let copied = c .before .before .copy-looked in
+    subst (λ (o : List ℕ). Copied (a .s .now) (a .at) o (a .to) (copied .last .1 .1 .0) (copied .result))
+    (run-none (a .s .now) (a .at) (a .out .now) (a .to) (c .before .before .before .before .before .before .before .copy-run .ensures) (omega arith))
+    (copied .ensures)
 
 pub copy-event-spec : {M : Type 1} → statement M
 copy-event-spec =
     tie.close
     (tie.spec
-    look-requires
-    enum-known-kind
-    data-length-requires
-    copy-requires
-    add-t13
+    copy-run-requires
+    add-t10
     same-length
     returns
-    enum-told
-    returns-2
-    enum-told-2
-    returns-3)
+    copy-looked-requires
+    same-length-2
+    returns-2)

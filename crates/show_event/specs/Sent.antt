@@ -1,0 +1,37 @@
+-- Events at places of a line: what is read there and what is written there, with the place behind it.
+use mathlib.Core.List.{List, _++_}
+use Prim.Native.Nat.{ℕ, _+_}
+use mathlib.Core.Bool.{Bool, _&&_}
+use lib.Dec.{ltb, leb}
+use lib.ListN.{length, take, drop}
+use Rattle.octets.specs.Choice.{if_then_else_}
+use Rattle.octets.specs.Lent.{Outcome, outcome}
+use Rattle.telnet.specs.Event.{Event}
+use Rattle.telnet_reader.specs.declared.Answer.{Answer}
+use Rattle.telnet_reader.specs.declared.Answer.the-variants.{End, Found, Refused as NotRead}
+use Rattle.telnet_writer.specs.declared.Written.{Written}
+use Rattle.telnet_writer.specs.declared.Written.the-variants.{Wrote, Refused}
+use Rattle.telnet_writer.specs.Promise.{writeOf}
+
+-- the place behind what stands at a place
+abbrev pub nextPlace : ℕ → Answer → ℕ
+nextPlace at End = at
+nextPlace at (Found kind length next) = next
+nextPlace at (NotRead number) = at
+
+-- the place behind what was written
+abbrev pub placeBehind : ℕ → Written → ℕ
+placeBehind at (Wrote n) = at + n
+placeBehind at (Refused number) = at
+
+-- what the writer leaves, behind what stands before the place
+abbrev pub behindPlace : List ℕ → ℕ → Outcome Written → Outcome ℕ
+behindPlace line at o = outcome (placeBehind at (o .answer)) (take at line ++ o .lent)
+
+-- nothing is written at a place behind the end
+unfoldable pub sentAt : Event → List ℕ → ℕ → Outcome ℕ
+sentAt e line at = if ltb (length line) at then outcome at line else behindPlace line at (writeOf e (drop at line))
+
+-- two lines fit into buffers of so many bytes each
+abbrev pub fit : List ℕ → List ℕ → ℕ → Bool
+fit down up room = leb (length down) room && leb (length up) room
