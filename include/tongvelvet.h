@@ -216,7 +216,8 @@ extern tv_event_t tv_look(const uint8_t *line, size_t line_length, size_t at);
 /*
  * The same, with the bytes that the event carries copied to the front of out,
  * each doubled 255 as one. Room that always suffices: what tv_look tells as
- * length, or line_length.
+ * length, or line_length. With room for all that is left of the line a run is
+ * read in one pass, else in two.
  * Refused as tv_look, then by 4.
  */
 #define TV_STACK_READ 512
@@ -227,7 +228,8 @@ extern tv_event_t tv_read(const uint8_t *line, size_t line_length, size_t at,
  * The record from a place on: all data up to the next end-of-record, copied
  * to the front of out. Commands and subnegotiations in between do not break
  * it and are passed over: a caller that has to answer them looks at the
- * events first. Room that always suffices: line_length.
+ * events first. Room that always suffices: line_length; it saves a pass, as
+ * for tv_read.
  * Refused as tv_look, by the number of the event that fails, then by 4.
  */
 #define TV_STACK_READ_RECORD 512
