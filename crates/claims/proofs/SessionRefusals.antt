@@ -4,10 +4,14 @@ use mathlib.Core.Path.{_≡_, refl, ap, _∙_}
 use mathlib.Core.Bool.{Bool}
 use mathlib.Core.List.{List, [], _∷_, _++_}
 use Prim.Native.Nat.{ℕ, _+_}
-use lib.Dec.{T, leb}
+use lib.Dec.{T, leb, eqb}
 use lib.ListN.{length}
 use Rattle.octets.proofs.Choice.{choice}
-use Rattle.refusal.specs.Refusal.{noRoom}
+use Rattle.refusal.specs.Refusal.{noRoom, offAnsweredByOn}
+use Rattle.telnet.specs.declared.Kind.the-variants.{Data, Command as Simple, Negotiation, Subnegotiation}
+use Rattle.telnet_reader.specs.declared.Answer.{Answer}
+use Rattle.telnet_reader.specs.declared.Answer.the-variants.{End, Found, Refused as NotRead}
+use Rattle.telnet_reader.specs.Promise.{lookAt}
 use Rattle.option_rules.specs.declared.Command.{Command}
 use Rattle.option_rules.specs.declared.Command.the-variants.{On as on, Off as off}
 use Rattle.option_rules.specs.declared.Side.{Side}
@@ -23,10 +27,11 @@ use Rattle.telnet.specs.declared.Verb.{Verb}
 use Rattle.option_sides.specs.Verbs.{toldBy}
 use Rattle.option_sides.specs.Session.{ofPair, inPair, pairAt, withPair, sideAt, withSide, answeredBy, received, requested}
 use Rattle.option_sides.proofs.Setting.{by-option}
-use Rattle.option_line.specs.Line.{commandBytes, sentWith, sentBy, receivedOn, requestedOn}
-use Rattle.claims.specs.Refusals.{Refusal, noRefusal, refusedBy, oneOf, Refuses, byNumber, byReceipt}
-use Rattle.claims.specs.Demand1.{RefusesOnLine}
-use Rattle.claims.proofs.OneOf.{behind}
+use Rattle.option_line.specs.Line.{commandBytes, sentWith, sentBy, receivedOn, requestedOn, heardAs, heardOn}
+use Rattle.claims.specs.Refusals.{Refusal, noRefusal, refusedBy, oneOf, Refuses, byNumber, byReceipt, ofEvent}
+use Rattle.claims.specs.Demand1.{line, RefusesBy, RefusesOnLine}
+use Rattle.claims.proofs.OneOf.{more, behind}
+use Rattle.claims.proofs.LineRefusals.{looks}
 use Rattle.claims.proofs.LineRefusals.{receives, requests}
 
 -- a side set to what it is
@@ -110,3 +115,26 @@ pub line-requests : (s : Sides) (w : Whose) (o : ℕ) (c : Command) (l : List �
 unfolding oneOf
 line-requests s w o c l at =
     sent-by (10 ∷ 11 ∷ 12 ∷ 13 ∷ []) byNumber refl refl tt s (requested s w o c) l at (session-requests s w o c) (quiet-request s w o c)
+
+-- by more numbers
+by-more : (ms ks : List ℕ) {L : Type 0} (found left : L) (r : Refusal) → Refuses ms found left r → Refuses (ms ++ ks) found left r
+by-more ms ks found left noRefusal t = tt
+by-more ms ks found left (refusedBy n) t = (behind ms ks n (t .0), t .1)
+
+pub line-hears : (s : Sides) (heard : List ℕ) (from : ℕ) (accept : Bool) (l : List ℕ) (at : ℕ)
+    → RefusesOnLine (4 ∷ 5 ∷ line) byReceipt s l (heardOn s heard from accept l at)
+unfolding heardOn
+line-hears s heard from accept l at = by-answer (lookAt heard from) (looks heard from)
+  where
+    by-answer : (a : Answer) → RefusesBy (5 ∷ line) (ofEvent a) → RefusesOnLine (4 ∷ 5 ∷ line) byReceipt s l (heardAs s a accept l at)
+    by-answer End t = tt
+    by-answer (Found Data n next) t = tt
+    by-answer (Found (Simple c) n next) t = tt
+    by-answer (Found (Negotiation v o) n next) t =
+        let r = receivedOn s v o accept l at in
+        by-more (4 ∷ []) (5 ∷ line) {L = Sides × List ℕ} (s, l) (r .answer .sides, r .lent) (byReceipt (r .answer .number)) (line-receives s v o accept l at)
+    by-answer (Found (Subnegotiation o) n next) t = tt
+    by-answer (NotRead n) t =
+        choice (Refuses (4 ∷ 5 ∷ line) {L = Sides × List ℕ} (s, l) (s, l)) (eqb n offAnsweredByOn)
+        (λ _. tt)
+        (λ _. choice (Refuses (4 ∷ 5 ∷ line) {L = Sides × List ℕ} (s, l) (s, l)) (eqb n 0) (λ _. tt) (λ _. (more 4 (5 ∷ line) n (t .0), refl)))

@@ -18,7 +18,7 @@ use Rattle.option_sides.specs.declared.Whose.{Whose}
 use Rattle.option_sides.specs.declared.Sides.{Sides}
 use Rattle.option_sides.specs.Session.{received, requested}
 use Rattle.option_line.specs.declared.Sent.{Sent}
-use Rattle.option_line.specs.Line.{receivedOn, requestedOn}
+use Rattle.option_line.specs.Line.{receivedOn, requestedOn, heardOn}
 use Rattle.telnet.specs.declared.Verb.{Verb}
 use Rattle.env.specs.declared.VariableRecord.{VariableRecord}
 use Rattle.env_delivery.specs.Promise.{readInto}
@@ -83,6 +83,9 @@ pub record Demand1 : Type 0 where
   pub lineReceive : (s : Sides) (v : Verb) (o : ℕ) (accept : Bool) (l : List ℕ) (at : ℕ) → RefusesOnLine (4 ∷ []) byReceipt s l (receivedOn s v o accept l at)
   pub lineRequest : (s : Sides) (w : Whose) (o : ℕ) (c : Command) (l : List ℕ) (at : ℕ)
       → RefusesOnLine (10 ∷ 11 ∷ 12 ∷ 13 ∷ 4 ∷ []) byNumber s l (requestedOn s w o c l at)
+  -- and where what is heard cannot be read
+  pub lineHear : (s : Sides) (heard : List ℕ) (from : ℕ) (accept : Bool) (l : List ℕ) (at : ℕ)
+      → RefusesOnLine (4 ∷ 5 ∷ line) byReceipt s l (heardOn s heard from accept l at)
   -- environment strings: `env_reader::read`, `env_list::read_records`, `env_writer::write`
   pub readPayload : (p bytes numbers : List ℕ)
       → Refuses (4 ∷ payload) {L = List ℕ × List ℕ} (bytes, numbers) (readInto p bytes numbers .bytes, readInto p bytes numbers .numbers) (ofPayload (readInto p bytes numbers .answer))
