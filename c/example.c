@@ -1,0 +1,311 @@
+/*
+ * The start of a printer session over a socket pair, both ends in one process,
+ * through tongvelvet.h alone. It prints the lines of the program
+ * run_printer_start: for each event who sends it, the line that the listing
+ * has for it, and what it means to the end that reads it.
+ */
+#include "tongvelvet.h"
+
+#include <stdio.h>
+#include <stdlib.h>
+#include <string.h>
+#include <sys/socket.h>
+#include <unistd.h>
+
+#define ROOM 1024
+
+/* One end: its socket, its options, what it has sent and what it has heard. */
+struct end {
+	const char *name;
+	int socket;
+	tv_sides_t sides;
+	uint8_t sent[ROOM];
+	size_t sent_length;
+	uint8_t heard[ROOM];
+	size_t heard_length;
+	size_t at; /* the place of the next event that it hears */
+};
+
+static void die(const char *what, unsigned number)
+{
+	fflush(stdout);
+	fprintf(stderr, "example: %s: %u\n", what, number);
+	exit(1);
+}
+
+static const char *option_name(uint8_t option)
+{
+	switch (option) {
+	case TV_OPTION_BINARY: return " BINARY";
+	case TV_OPTION_SUPPRESS_GO_AHEAD: return " SUPPRESS-GO-AHEAD";
+	case 6: return " TIMING-MARK";
+	case TV_OPTION_TERMINAL_TYPE: return " TERMINAL-TYPE";
+	case TV_OPTION_END_OF_RECORD: return " END-OF-RECORD";
+	case TV_OPTION_NEW_ENVIRON: return " NEW-ENVIRON";
+	default: return "";
+	}
+}
+
+/* Says the event at a place of what an end has sent. */
+static void say_event(const struct end *e, size_t at)
+{
+	char text[TV_LINE_ROOM];
+	tv_event_t event = tv_look(e->sent, e->sent_length, at);
+	tv_written_t line = tv_line(e->sent, e->sent_length, at, (uint8_t *)text, sizeof text);
+
+	if (line.refusal || line.length == 0)
+		die("line", line.refusal);
+	printf("\n%s %.*s", e->name, (int)(line.length - 1), text);
+	if (event.what == TV_DATA)
+		printf(" a run of a record");
+	else if (event.what == TV_COMMAND)
+		printf(" its end");
+	else
+		printf("%s", option_name(event.option));
+}
+
+/* Sends an event: behind what was sent, and to the socket. */
+static void send_event(struct end *e, uint8_t what, uint8_t code, uint8_t option,
+		const void *payload, size_t length)
+{
+	size_t at = e->sent_length;
+	tv_written_t w = tv_write(what, code, option, payload, length, e->sent + at, ROOM - at);
+
+	if (w.refusal)
+		die("write", w.refusal);
+	if (write(e->socket, e->sent + at, w.length) != (ssize_t)w.length)
+		die("socket", 0);
+	e->sent_length += w.length;
+	say_event(e, at);
+}
+
+/* Takes what has come from the socket. */
+static void hear(struct end *e)
+{
+	ssize_t n = read(e->socket, e->heard + e->heard_length, ROOM - e->heard_length);
+
+	if (n < 0)
+		die("socket", 0);
+	e->heard_length += (size_t)n;
+}
+
+/* The sides after a call, and the command that it sends, if any. */
+static void step(struct end *e, tv_answered_t a)
+{
+	if (a.number && a.number != TV_NOTE_OFF_ANSWERED_BY_ON)
+		die("option", a.number);
+	e->sides = a.sides;
+	if (a.writes)
+		send_event(e, TV_NEGOTIATION, a.code, a.option, NULL, 0);
+}
+
+/* Answers the option commands from an end's place on, up to another event. */
+static void answer(struct end *e)
+{
+	for (;;) {
+		tv_event_t event = tv_look(e->heard, e->heard_length, e->at);
+
+		if (event.refusal)
+			die("look", event.refusal);
+		if (event.what != TV_NEGOTIATION)
+			return;
+		e->at = event.next;
+		step(e, tv_sides_receive(e->sides, event.code, event.option, true));
+	}
+}
+
+static void ask(struct end *e, bool ours, uint8_t option)
+{
+	step(e, tv_sides_request(e->sides, ours, option, true));
+}
+
+static void negotiate(struct end *host, struct end *printer)
+{
+	tv_sides_t s;
+
+	ask(host, false, TV_OPTION_NEW_ENVIRON);
+	ask(host, false, TV_OPTION_TERMINAL_TYPE);
+	ask(host, false, TV_OPTION_END_OF_RECORD);
+	ask(host, true, TV_OPTION_END_OF_RECORD);
+	ask(host, false, TV_OPTION_BINARY);
+	ask(host, true, TV_OPTION_BINARY);
+	hear(printer);
+	answer(printer);
+	hear(host);
+	answer(host);
+	s = host->sides;
+	if (s.environ.other != TV_SIDE_ON || s.terminal.other != TV_SIDE_ON
+			|| s.records.other != TV_SIDE_ON || s.records.ours != TV_SIDE_ON
+			|| s.binary.other != TV_SIDE_ON || s.binary.ours != TV_SIDE_ON)
+		die("options do not rest on", 0);
+}
+
+static const uint8_t server_seed[8] = {0x7D, 0x4C, 0x23, 0x19, 0xF2, 0x80, 0x04, 0xB2};
+
+#define SERVER_SEED 0x7D4C2319F28004B2u
+#define CLIENT_SEED 0x08BEF662D851F4B1u
+
+static void put_number(uint8_t *out, uint64_t n)
+{
+	for (int i = 7; i >= 0; i--, n >>= 8)
+		out[i] = (uint8_t)n;
+}
+
+/* The printer's variables, each a kind and the places of its name and value. */
+static void tell_environment(struct end *printer)
+{
+	uint8_t bytes[] = "USER" "USER123" "IBMRSEED" "........" "IBMSUBSPW" "........" "DEVNAME" "PCPRINTER";
+	const size_t places[] = {
+		TV_ENV_VAR, 0, 4, 4, 7,
+		TV_ENV_USERVAR, 11, 8, 19, 8,
+		TV_ENV_USERVAR, 27, 9, 36, 8,
+		TV_ENV_USERVAR, 44, 7, 51, 9,
+	};
+	uint8_t payload[TV_PAYLOAD_LIMIT];
+	tv_block_t token = tv_des_token(bytes + 4, 7, (const uint8_t *)"ABCDEFG", 7);
+	tv_block_t substitute = tv_des_substitute(token.value, bytes + 4, 7, SERVER_SEED, CLIENT_SEED);
+	tv_written_t w;
+
+	if (token.refusal || substitute.refusal)
+		die("substitute", token.refusal + substitute.refusal);
+	put_number(bytes + 19, CLIENT_SEED);
+	put_number(bytes + 36, substitute.value);
+	w = tv_env_write(TV_ENV_IS, bytes, sizeof bytes - 1, places, sizeof places / sizeof *places,
+			payload, sizeof payload);
+	if (w.refusal)
+		die("environment", w.refusal);
+	send_event(printer, TV_SUBNEGOTIATION, 0, TV_OPTION_NEW_ENVIRON, payload, w.length);
+}
+
+static const char *verdict_name(uint8_t verdict)
+{
+	static const char *const names[] = {"", "PANEL", "0002", "0003", "0004", "GRANT"};
+
+	return verdict <= TV_VERDICT_GRANT ? names[verdict] : "";
+}
+
+static uint8_t sign_on(struct end *host, struct end *printer, const uint8_t *table, size_t table_length)
+{
+	uint8_t send[20] = "\x01\x03IBMRSEED........\x00";
+	uint8_t payload[TV_PAYLOAD_LIMIT];
+	tv_event_t event;
+	tv_judged_t v;
+
+	memcpy(send + 10, server_seed, 8);
+	send[19] = 3;
+	send_event(host, TV_SUBNEGOTIATION, 0, TV_OPTION_NEW_ENVIRON, send, sizeof send);
+	printf(": SEND");
+	hear(printer);
+	printer->at = tv_look(printer->heard, printer->heard_length, printer->at).next;
+	tell_environment(printer);
+	hear(host);
+	event = tv_read(host->heard, host->heard_length, host->at, payload, sizeof payload);
+	if (event.refusal || event.what != TV_SUBNEGOTIATION)
+		die("payload", event.refusal);
+	host->at = event.next;
+	v = tv_verdict(server_seed, sizeof server_seed, table, table_length, payload, event.length);
+	if (v.refusal)
+		die("verdict", v.refusal);
+	printf(": %s", verdict_name(v.verdict));
+	return v.verdict;
+}
+
+/* Reads the record from an end's place on. */
+static size_t read_record(struct end *e, uint8_t *out, size_t room)
+{
+	tv_record_t r;
+
+	hear(e);
+	r = tv_read_record(e->heard, e->heard_length, e->at, out, room);
+	if (r.refusal || !r.complete)
+		die("record", r.refusal);
+	e->at = r.next;
+	return r.length;
+}
+
+static void send_record(struct end *e, const uint8_t *record, size_t length)
+{
+	send_event(e, TV_DATA, 0, 0, record, length);
+	send_event(e, TV_COMMAND, TV_EOR, 0, NULL, 0);
+}
+
+static void respond(struct end *host, struct end *printer, uint8_t verdict)
+{
+	uint8_t record[TV_RESPONSE_LENGTH];
+	uint8_t heard[ROOM];
+	tv_written_t w = tv_response(false, verdict, (const uint8_t *)"TARGET", 6,
+			(const uint8_t *)"PCPRINTER", 9, record, sizeof record);
+
+	if (w.refusal)
+		die("response", w.refusal);
+	send_record(host, record, w.length);
+	if (read_record(printer, heard, sizeof heard) != TV_RESPONSE_LENGTH)
+		die("response", 0);
+	/* the code is EBCDIC: I902, or four digits */
+	printf(": ");
+	for (int i = 16; i < 20; i++)
+		putchar(heard[i] == 0xC9 ? 'I' : heard[i] & 0x3F);
+}
+
+static void print_order(struct end *host, struct end *printer)
+{
+	static const uint8_t first[] = "\x00\x1E\x12\xA0\x01\x01\x04\x18\x00\x01" "STEP DOWN";
+	static const uint8_t second[] = " 40 MW\xFF\r\n\f";
+	uint8_t record[ROOM], complete[TV_COMPLETE_LENGTH];
+	size_t start = printer->at, end, length;
+	tv_taken_t taken;
+	tv_completed_t completed;
+	tv_frame_t frame;
+
+	send_event(host, TV_DATA, 0, 0, first, sizeof first - 1);
+	send_event(host, TV_NEGOTIATION, TV_DO, 6, NULL, 0);
+	send_record(host, second, sizeof second);
+	length = read_record(printer, record, sizeof record);
+	end = printer->at;
+	taken = tv_ledger_take(TV_LEDGER_IDLE, record, length);
+	if (taken.refusal)
+		die("ledger", taken.refusal);
+	printf(taken.receipt == TV_RECEIPT_HELD ? ": held" : ": not held");
+
+	/* the option command that stood in the record */
+	printer->at = tv_look(printer->heard, printer->heard_length, start).next;
+	answer(printer);
+	printer->at = end;
+
+	completed = tv_ledger_complete(taken.ledger, complete, sizeof complete);
+	if (completed.refusal)
+		die("completion", completed.refusal);
+	hear(host);
+	answer(host);
+	send_record(printer, complete, completed.length);
+	length = read_record(host, record, sizeof record);
+	frame = tv_read_frame(record, length);
+	if (frame.refusal || frame.direction != TV_INBOUND || frame.operation != TV_OPERATION_PRINT)
+		die("frame", frame.refusal);
+	printf(": print complete");
+}
+
+int main(void)
+{
+	struct end host = {.name = "host"}, printer = {.name = "printer"};
+	uint8_t table[1 + TV_RECORD_ROOM] = {TV_TABLE_VERSION};
+	tv_written_t made = tv_make_record((const uint8_t *)"USER123", 7, (const uint8_t *)"ABCDEFG", 7,
+			true, true, table + 1, TV_RECORD_ROOM);
+	int sockets[2];
+
+	if (made.refusal)
+		die("table", made.refusal);
+	if (socketpair(AF_UNIX, SOCK_STREAM, 0, sockets))
+		die("socket", 0);
+	host.socket = sockets[0];
+	printer.socket = sockets[1];
+	host.sides = tv_sides_fresh();
+	printer.sides = tv_sides_fresh();
+
+	printf("A printer session");
+	negotiate(&host, &printer);
+	respond(&host, &printer, sign_on(&host, &printer, table, 1 + made.length));
+	print_order(&host, &printer);
+	printf("\n");
+	return 0;
+}
