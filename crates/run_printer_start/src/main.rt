@@ -3,7 +3,8 @@
 // that the listing has for it, and what it means to the end that reads it.
 //
 // The parts are libraries, each of which goes on where the one before it ended: `play_options`, `play_answers`, `play_environ`, `play_signon`,
-// `play_response`, `play_order`. `stdout` was written by a Python rendering of RFCs 854, 855 and 4777 that has nothing of the library.
+// `play_response`, `play_order`. The places and lengths in `stdout` were computed by a Python rendering of the framing of RFCs 854, 855 and 1572; the words
+// behind a colon (the verdict, the code, held, print complete) were written down as what the papers let expect, and the substitute is that of `run_password`.
 fn main() {
     let mut table = [0u8; 512];
     let n = io::read_full(0, &mut table);
