@@ -6,3 +6,4 @@ pub mod Lent
 pub mod Promise
 pub mod Same
 pub mod Part
+pub mod Find

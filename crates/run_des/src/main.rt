@@ -61,7 +61,7 @@ fn run_line(line: &[u8]) {
 fn run(text: &[u8]) {
     let mut at = 0;
     while at < text.len() {
-        let end = show::find_byte(text, at, b'\n');
+        let end = octets_find::find_byte(text, at, b'\n');
         if text.len() <= end {
             return;
         }

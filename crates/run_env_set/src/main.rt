@@ -55,7 +55,7 @@ fn run_case(i: u8, k: u8) {
 }
 
 fn run_line(line: &[u8]) {
-    let colon = show::find_byte(line, 0, b':');
+    let colon = octets_find::find_byte(line, 0, b':');
     if line.len() <= colon {
         return;
     }
@@ -69,7 +69,7 @@ fn run_line(line: &[u8]) {
 fn run(text: &[u8]) {
     let mut at = 0;
     while at < text.len() {
-        let end = show::find_byte(text, at, b'\n');
+        let end = octets_find::find_byte(text, at, b'\n');
         if text.len() <= end {
             return;
         }

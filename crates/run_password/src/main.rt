@@ -88,7 +88,7 @@ fn run_case(letter: u8, name_length: u8, password_length: u8, case: &[u8]) {
 }
 
 fn run_line(line: &[u8]) {
-    let colon = show::find_byte(line, 0, b':');
+    let colon = octets_find::find_byte(line, 0, b':');
     if line.len() <= colon {
         return;
     }
@@ -102,7 +102,7 @@ fn run_line(line: &[u8]) {
 fn run(text: &[u8]) {
     let mut at = 0;
     while at < text.len() {
-        let end = show::find_byte(text, at, b'\n');
+        let end = octets_find::find_byte(text, at, b'\n');
         if text.len() <= end {
             return;
         }

@@ -69,7 +69,7 @@ fn run_digits(letter: u8, digits: &[u8]) {
 // A line: behind the name's colon stand a blank and the bytes.
 fn run_line(line: &[u8]) {
     let n = line.len();
-    let colon = show::find_byte(line, 0, b':');
+    let colon = octets_find::find_byte(line, 0, b':');
     if n < 2 {
         return;
     }
@@ -83,7 +83,7 @@ fn run_line(line: &[u8]) {
 fn run(text: &[u8]) {
     let mut at = 0;
     while at < text.len() {
-        let end = show::find_byte(text, at, b'\n');
+        let end = octets_find::find_byte(text, at, b'\n');
         if text.len() <= end {
             return;
         }

@@ -1,17 +1,12 @@
 -- What the functions of this crate promise.
 use Prim.Native.Nat.{ℕ, _+_}
 use mathlib.Core.Bool.{true, false}
-use mathlib.Core.List.{List, [], _∷_}
-use lib.Dec.{leb, eqb}
+use mathlib.Core.List.{List}
+use lib.Dec.{leb}
 use lib.ListN.{length}
 use Rattle.octets.specs.Choice.{if_then_else_}
 use Rattle.octets.specs.Lent.{Outcome, outcome, overwrite}
 use Rattle.show.specs.Hex.{hexBytes}
-
--- what stands before the first byte b; all where there is none
-unfoldable pub upTo : ℕ → List ℕ → List ℕ
-upTo b [] = []
-upTo b (c ∷ cs) = if eqb c b then [] else c ∷ upTo b cs
 
 -- the bytes of a text of hexadecimal digits at the front of a buffer, and how many; none where they do not fit
 unfoldable pub hexInto : List ℕ → List ℕ → Outcome ℕ

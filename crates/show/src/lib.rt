@@ -6,21 +6,7 @@ ghost use lib.ListN.{length, drop};
 ghost use Rattle.octets.specs.Decimal.{decimal};
 ghost use Rattle.octets.specs.Lent.{outcome, overwrite};
 ghost use Rattle.show.specs.Hex.{digitValue, byteOf, hexDigit, hexPair, hexText, spacedText};
-ghost use Rattle.show.specs.Promise.{upTo, hexInto, placed};
-
-// The place of the first byte `b` from a place on, or where the text ends.
-pub fn find_byte(text: &[u8], at: usize, b: u8) -> usize
-    ensures { λ r. ⌜ r ≡ at + length (upTo b (drop at (now (text .entry)))) ⌝ }
-{
-    let mut i = at;
-    while i < text.len() {
-        if text[i] == b {
-            return i;
-        }
-        i += 1;
-    }
-    i
-}
+ghost use Rattle.show.specs.Promise.{hexInto, placed};
 
 // The value of a hexadecimal digit, of either case.
 fn digit_value(c: u8) -> u8

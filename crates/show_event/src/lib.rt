@@ -55,7 +55,7 @@ fn say_purpose(kind: Kind) {
 fn say_line(at: usize, answer: Answer) {
     let mut text = [0u8; 67];
     telnet_line::line(at, answer, &mut text);
-    let end = show::find_byte(&text, 0, b'\n');
+    let end = octets_find::find_byte(&text, 0, b'\n');
     say(octets_part::part(&text, 0, end));
 }
 

@@ -1,13 +1,13 @@
--- `show::find_byte` meets its contract. The loop's invariant: what stands before the byte from here on, behind what is passed, ends where the answer is.
+-- `octets_find::find_byte` meets its contract. The loop's invariant: what stands before the byte from here on, behind what is passed, ends where the answer is.
 -- The measure is what is left of the text. Assumes nothing.
 use mathlib.Core.Path.{_≡_}
 use Prim.Native.Nat.{_+_, _-_}
 use native.Mathlib.Omega.{arith}
 use lib.ListN.{length, drop}
-use Rattle.show.specs.Promise.{upTo}
-use Rattle.show.proofs.Lines.{found, passed, ended}
-use Rattle.show.proofs.find_byte.Statement.{statement}
-use Rattle.show.proofs.find_byte.Tie as tie
+use Rattle.octets.specs.Find.{upTo}
+use Rattle.octets_find.proofs.Before.{found, passed, ended}
+use Rattle.octets_find.proofs.find_byte.Statement.{statement}
+use Rattle.octets_find.proofs.find_byte.Tie as tie
 
 abbrev Inv-loop : tie.InvT-loop
 Inv-loop text at b i₀ i = i + length (upTo b (drop i text)) ≡ at + length (upTo b (drop at text))

@@ -6,7 +6,7 @@ use Prim.Native.Nat.{ℕ, suc, _+_, _≤_, _<_}
 use borrow.Author.Tests.{eq-eqb, ne-eqb}
 use lib.ListN.{length, getD, drop, drop-of-length-le}
 use Rattle.octets.proofs.Front.{at-front}
-use Rattle.show.specs.Promise.{upTo}
+use Rattle.octets.specs.Find.{upTo}
 
 pub found : (b : ℕ) (s : List ℕ) (i : ℕ) → i < length s → getD s i 0 ≡ b → length (upTo b (drop i s)) ≡ 0
 unfolding upTo
