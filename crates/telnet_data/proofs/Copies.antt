@@ -1,109 +1,105 @@
--- The laws of `copyInto`: a copy byte by byte, its two cases, and a copy of the whole stretch; and those of `copyRun`. Assumes nothing.
-use mathlib.Core.Path.{_≡_, refl, sym, ap, ap₂, subst, _∙_}
-use mathlib.Core.Bool.{Bool, true, false}
-use mathlib.Core.List.{List, [], _∷_}
-use Prim.Native.Nat.{ℕ, suc, _+_, _-_, _≤_, _<_}
+-- The laws of `copyRun`: a stretch is copied piece by piece, until it ends or the room does. Assumes nothing.
+use mathlib.Core.Path.{_≡_, refl, sym, ap, ap₂, _∙_}
+use mathlib.Core.Bool.{true}
+use mathlib.Core.List.{List, [], _∷_, _++_}
+use Prim.Native.Nat.{ℕ, _+_, _-_, _≤_, _<_}
 use native.Mathlib.Omega.{arith}
-use lib.Dec.{leb}
-use lib.ListN.{length, drop, take, set, length-take, length-drop}
-use lib.Seq.{take-all, take-nil}
-use borrow.Author.Tests.{le-leb, lt-leb, leb-true}
-use Rattle.octets.proofs.Choice.{choice}
+use lib.ListN.{length, drop, take, set, length-append, length-take}
+use lib.Seq.{take-all, take-at}
 use Rattle.octets.proofs.Front.{empty}
 use Rattle.octets.specs.Lent.{Outcome, outcome, overwrite}
-use Rattle.octets.proofs.Overwrite.{overwrite-nil, overwrite-cons}
+use Rattle.octets.proofs.Overwrite.{overwrite-nil, overwrite-one, overwrite-append, length-overwrite}
+use Rattle.telnet.specs.Event.{iac}
 use Rattle.telnet.specs.Read.{undoubled}
-use Rattle.telnet_data.specs.Promise.{count, span, extentAt, copyInto, copyRun}
 use Rattle.telnet_data.specs.declared.Extent.{Extent}
-use Rattle.telnet_data.proofs.Widths.{count-within, no-unit, none-next, width-end, extent-is, Measured, measured}
+use Rattle.telnet_data.specs.Promise.{count, span, copied, copyRun}
+use Rattle.telnet_data.specs.near.Pieces.{isDoubled, plain, PlainCopied}
+use Rattle.telnet_data.proofs.Stretches.{Piece, no-piece, joined, plain-piece, plain-length, doubled-piece, whole, Measured}
 
--- a buffer with the bytes of a stretch put from place k up to place e
-abbrev pub putting : List ℕ → ℕ → ℕ → List ℕ → List ℕ
-putting out k e d = overwrite out k (take (e - k) d)
+-- bytes of the stretch at a place that are put at a place of a buffer, and where they end in the line and in the buffer
+pub record Put (s : List ℕ) (at : ℕ) (out : List ℕ) (to i k : ℕ) (left : List ℕ) : Type 0 where
+  pub bytes : List ℕ
+  pub piece : Piece s at bytes i
+  pub place : k ≡ to + length bytes
+  pub lent : left ≡ overwrite out to bytes
+  pub same : length left ≡ length out
+  pub room : length bytes ≤ length out - to
 
--- a stretch that has ended, and a place that is reached, put nothing
-pub put-none : (out : List ℕ) (k e : ℕ) → putting out k e [] ≡ out
-put-none out k e = rw take-nil (overwrite-nil out k)
+pub put-none : (s : List ℕ) (at : ℕ) (out : List ℕ) (to : ℕ) → Put s at out to at to out
+put-none s at out to = record {
+  bytes = [];
+  piece = no-piece s at;
+  place = omega arith;
+  lent = sym (overwrite-nil out to);
+  same = refl;
+  room = omega arith;
+}
 
-pub put-enough : (out : List ℕ) (k e : ℕ) (d : List ℕ) → e ≤ k → putting out k e d ≡ out
-put-enough out k e d h =
-    let none : e - k ≡ 0 = omega arith in
-    rw none (overwrite-nil out k)
+module _ {s : List ℕ} {at : ℕ} {out : List ℕ} {to i k : ℕ} {left : List ℕ} (p : Put s at out to i k left) where
+  -- one piece more
+  put-piece : (x : List ℕ) {j m : ℕ} {l : List ℕ} → Piece s i x j → m ≡ k + length x → m ≤ length left → l ≡ overwrite left k x → Put s at out to j m l
+  put-piece x q e h f =
+      let d = p .bytes in
+      record {
+        bytes = d ++ x;
+        piece = joined (p .piece) q;
+        place = rw length-append (omega arith);
+        lent = f ∙ ap₂ (λ o n. overwrite o n x) (p .lent) (p .place) ∙ overwrite-append out to d x (omega arith);
+        same = ap length f ∙ length-overwrite left k x (omega arith) ∙ p .same;
+        room = rw length-append (omega arith);
+      }
 
--- the first byte, and then those behind it
-pub put-next : (out : List ℕ) (k e b : ℕ) (d : List ℕ) → k < e → e ≤ length out → putting (set out k b) (k + 1) e d ≡ putting out k e (b ∷ d)
-put-next out k e b d h g =
-    let more : e - k ≡ suc (e - (k + 1)) = omega arith in
-    let room : k + suc (length (take (e - (k + 1)) d)) ≤ length out = rw length-take (omega arith) in
-    rw more (overwrite-cons out k b (take (e - (k + 1)) d) room)
+  pub put-plain : {n : ℕ} {l : List ℕ} → k < length left → PlainCopied s i left k n l → Put s at out to (i + n) (k + n) l
+  put-plain {n} h c =
+      let all : n ≤ plain s i = omega arith in
+      put-piece (take n (drop i s)) (plain-piece s i n all) (ap (λ m. k + m) (sym (plain-length s i n all))) (omega arith) (c .lent)
 
-module _ (s : List ℕ) (from count : ℕ) (out : List ℕ) (to : ℕ) where
-  pub copy-fits : to + count ≤ length out → copyInto s from count out to ≡ outcome true (putting out to (to + count) (undoubled (drop from s)))
-  unfolding copyInto
-  copy-fits h =
-      let all : to + count - to ≡ count = omega arith in
-      rw (le-leb (to + count) (length out) h, all)
+  pub put-doubled : k < length left → isDoubled (drop i s) ≡ true → Put s at out to (i + 2) (k + 1) (set left k iac)
+  put-doubled h e = put-piece (iac ∷ []) (doubled-piece s i e) refl (omega arith) (sym (overwrite-one left k iac h))
 
-  pub copy-refused : length out < to + count → copyInto s from count out to ≡ outcome false out
-  unfolding copyInto
-  copy-refused h = rw (lt-leb (to + count) (length out) h)
+  told : take (length out - to) (undoubled (drop at s)) ≡ p .bytes → outcome (record { count = k - to; end = i }) left ≡ copyRun s at out to
+  unfolding copyRun copied
+  told e =
+      let n : k - to ≡ length (p .bytes) = omega arith in
+      rw (e, n, ← p .piece .place, ← p .lent)
 
-  -- what is left where the whole stretch is copied and there is room
-  pub copy-whole : {t : Bool} {l : List ℕ} → to + count ≤ length out → count ≡ length (undoubled (drop from s))
-      → outcome t l ≡ copyInto s from count out to → l ≡ overwrite out to (undoubled (drop from s))
-  copy-whole h e c =
-      ap (λ (o : Outcome Bool). o .lent) (c ∙ copy-fits h)
-      ∙ ap (overwrite out to) (take-all (to + count - to) (undoubled (drop from s)) (omega arith))
+  -- the stretch ends, or the room does
+  pub put-whole : undoubled (drop i s) ≡ [] → outcome (record { count = k - to; end = i }) left ≡ copyRun s at out to
+  put-whole e = told (ap (take (length out - to)) (whole (p .piece) e) ∙ take-all (length out - to) (p .bytes) (p .room))
 
--- an empty stretch at a place
-abbrev pub nothing : ℕ → Extent
-nothing at = record { count = 0; end = at }
+  pub put-full : length left ≤ k → outcome (record { count = k - to; end = i }) left ≡ copyRun s at out to
+  put-full h = told (ap (take (length out - to)) (p .piece .bytes) ∙ take-at (p .bytes) (undoubled (drop i s)) (length out - to) (omega arith))
 
 -- the stretch at a place, copied whole to a place of a buffer
 pub record RunCopied (s : List ℕ) (at : ℕ) (out : List ℕ) (to : ℕ) (r : Extent) (l : List ℕ) : Type 0 where
   pub told : Measured s at r
   pub lent : l ≡ overwrite out to (undoubled (drop at s))
-  pub room : to + count (drop at s) ≤ length out
 
-module _ (s : List ℕ) (at : ℕ) (out : List ℕ) (to : ℕ) where
-  run-fits : to + (length s - at) ≤ length out → copyRun s at out to ≡ outcome (extentAt s at) (overwrite out to (undoubled (drop at s)))
-  unfolding copyRun
-  run-fits h = rw (le-leb (to + (length s - at)) (length out) h)
+module _ (s : List ℕ) (at : ℕ) (out : List ℕ) (to : ℕ) {r : Extent} {l : List ℕ} (e : outcome r l ≡ copyRun s at out to) where
+  number : r .count ≡ length (take (length out - to) (undoubled (drop at s)))
+  unfolding copyRun copied
+  number = ap (λ (o : Outcome Extent). o .answer .count) e
 
-  -- by the parts of the answer and what is left
-  pub run-told : (n i : ℕ) (l : List ℕ) → to + (length s - at) ≤ length out → n ≡ count (drop at s) → i ≡ at + span (drop at s)
-      → l ≡ overwrite out to (undoubled (drop at s)) → outcome (record { count = n; end = i }) l ≡ copyRun s at out to
-  run-told n i l h e f g = ap₂ outcome (extent-is s at n i e f) g ∙ sym (run-fits h)
+  -- what is copied is of the stretch
+  pub run-some : 0 < r .count → 0 < count (drop at s)
+  unfolding count
+  run-some h = omega (arith, number, length-take (length out - to) (undoubled (drop at s)))
 
-  pub run-refused : length out < to + (length s - at) → copyRun s at out to ≡ outcome (nothing at) out
-  unfolding copyRun
-  run-refused h = rw (lt-leb (to + (length s - at)) (length out) h)
+  -- where nothing is copied the buffer is as it was, and nothing stands there if there is room
+  pub run-none : r .count ≡ 0 → l ≡ out
+  unfolding copyRun copied
+  run-none h = ap (λ (o : Outcome Extent). o .lent) e ∙ ap (overwrite out to) (empty _ (sym number ∙ h)) ∙ overwrite-nil out to
 
-  pub run-past : length s ≤ at → copyRun s at out to ≡ outcome (nothing at) out
-  unfolding copyRun
-  run-past h =
-      let w = width-end s at h in
-      let z = none-next s at w in
-      let none : extentAt s at ≡ nothing at = sym (extent-is s at 0 at (omega arith) (omega arith)) in
-      let kept : overwrite out to (undoubled (drop at s)) ≡ out = ap (overwrite out to) (no-unit (drop at s) w) ∙ overwrite-nil out to in
-      choice (λ (o : Outcome Extent). o ≡ outcome (nothing at) out) (leb (to + (length s - at)) (length out)) (λ _. ap₂ outcome none kept) (λ _. refl)
+  pub run-empty : r .count ≡ 0 → to < length out → undoubled (drop at s) ≡ []
+  run-empty h g = empty (undoubled (drop at s)) (omega (arith, number, length-take (length out - to) (undoubled (drop at s))))
 
-  module _ {r : Extent} {l : List ℕ} (e : outcome r l ≡ copyRun s at out to) where
-    -- where nothing is told, the buffer is as it was
-    pub run-none : r .count ≡ 0 → l ≡ out
-    unfolding copyRun count
-    run-none = subst (λ (o : Outcome Extent). o .answer .count ≡ 0 → o .lent ≡ out) (sym e)
-        (choice (λ (o : Outcome Extent). o .answer .count ≡ 0 → o .lent ≡ out) (leb (to + (length s - at)) (length out))
-        (λ _ z. ap (overwrite out to) (empty (undoubled (drop at s)) (sym (measured s at _ refl .counted) ∙ z)) ∙ overwrite-nil out to) (λ _ _. refl))
-
-    -- where something is told, it is the stretch, and stands in the buffer
-    pub run-whole : 0 < r .count → RunCopied s at out to r l
-    unfolding copyRun
-    run-whole =
-        subst (λ (o : Outcome Extent). 0 < o .answer .count → RunCopied s at out to (o .answer) (o .lent)) (sym e)
-        (choice (λ (o : Outcome Extent). 0 < o .answer .count → RunCopied s at out to (o .answer) (o .lent)) (leb (to + (length s - at)) (length out))
-        (λ t _. record {
-          told = measured s at (extentAt s at) refl;
-          lent = refl;
-          room = omega (arith, leb-true (to + (length s - at)) (length out) t, count-within (drop at s), length-drop at s);
-        }) (λ _ (h : 0 < 0). absurd (omega arith)))
+  -- where there is room for the stretch it is copied whole
+  pub run-whole : count (drop at s) ≤ length out - to → RunCopied s at out to r l
+  unfolding copyRun copied count span
+  run-whole h =
+      let all : take (length out - to) (undoubled (drop at s)) ≡ undoubled (drop at s) = take-all (length out - to) (undoubled (drop at s)) h in
+      let whole = e ∙ ap (copied at out to) all in
+      record {
+        told = record { counted = ap (λ (o : Outcome Extent). o .answer .count) whole; ended = ap (λ (o : Outcome Extent). o .answer .end) whole };
+        lent = ap (λ (o : Outcome Extent). o .lent) whole;
+      }

@@ -1,10 +1,7 @@
--- What each function of this crate answers, and what it leaves in the buffer that it is lent: for every line, place, number and room.
+-- What each function of this crate answers, and what it leaves in the buffer that it is lent: for every line, place and room.
 use Prim.Native.Nat.{ℕ, _+_, _-_}
-use mathlib.Core.Bool.{Bool, true, false}
 use mathlib.Core.List.{List}
-use lib.Dec.{leb}
 use lib.ListN.{length, take, drop}
-use Rattle.octets.specs.Choice.{if_then_else_}
 use Rattle.octets.specs.Lent.{Outcome, outcome, overwrite}
 use Rattle.telnet.specs.Write.{doubled}
 use Rattle.telnet.specs.Read.{undoubled}
@@ -21,14 +18,10 @@ span bs = length (doubled (undoubled bs))
 unfoldable pub extentAt : List ℕ → ℕ → Extent
 extentAt s at = record { count = count (drop at s); end = at + span (drop at s) }
 
--- the first bytes of the stretch at a place, put at a place of a buffer; where there is no room for so many a refusal, and the buffer is as it was
-unfoldable pub copyInto : List ℕ → ℕ → ℕ → List ℕ → ℕ → Outcome Bool
-copyInto s from count out to =
-    if leb (to + count) (length out) then outcome true (overwrite out to (take count (undoubled (drop from s)))) else outcome false out
+-- bytes of the stretch at a place, put at a place of a buffer: how many they are, and the place of the line behind them
+unfoldable pub copied : ℕ → List ℕ → ℕ → List ℕ → Outcome Extent
+copied at out to d = outcome (record { count = length d; end = at + length (doubled d) }) (overwrite out to d)
 
--- the whole stretch at a place, put at a place of a buffer; where there is no room for all that is left of the line, an empty stretch, and the
--- buffer is as it was
+-- as much of the stretch at a place as a buffer has room for from a place on, put there
 unfoldable pub copyRun : List ℕ → ℕ → List ℕ → ℕ → Outcome Extent
-copyRun s at out to =
-    if leb (to + (length s - at)) (length out) then outcome (extentAt s at) (overwrite out to (undoubled (drop at s)))
-    else outcome (record { count = 0; end = at }) out
+copyRun s at out to = copied at out to (take (length out - to) (undoubled (drop at s)))

@@ -1,10 +1,11 @@
 // The scanning of data: a stretch of bytes of a line in which each 255 is doubled. What is answered, and left in a buffer, is said in
 // `specs/Promise.antt`.
 ghost use mathlib.Core.Path.{_≡_};
-ghost use lib.ListN.{drop};
+ghost use Prim.Native.Nat.{_≤_, min};
+ghost use lib.ListN.{length, drop};
 ghost use Rattle.octets.specs.Lent.{outcome};
-ghost use Rattle.telnet_data.specs.Promise.{extentAt, copyInto, copyRun};
-ghost use Rattle.telnet_data.specs.near.Width.{width};
+ghost use Rattle.telnet_data.specs.Promise.{extentAt, copyRun};
+ghost use Rattle.telnet_data.specs.near.Pieces.{isDoubled, PlainCopied};
 
 // The stretch of data at a place: how many bytes it carries, and the place behind it.
 pub struct Extent {
@@ -12,23 +13,20 @@ pub struct Extent {
     pub end: usize,
 }
 
-// How many bytes of the line the data byte at a place takes: two for a doubled 255, none where no data byte stands there.
-fn width_at(s: &[u8], at: usize) -> usize
-    ensures { λ r. ⌜ r ≡ width (drop at (now (s .entry))) ⌝ }
+// Whether a doubled 255 stands at a place.
+fn is_doubled(s: &[u8], at: usize) -> bool
+    ensures { λ r. ⌜ r ≡ isDoubled (drop at (now (s .entry))) ⌝ }
 {
     if s.len() <= at {
-        return 0;
-    }
-    if s[at] != 255 {
-        return 1;
+        return false;
     }
     if s.len() - at < 2 {
-        return 0;
+        return false;
     }
-    if s[at + 1] != 255 {
-        return 0;
+    if s[at] != 255 {
+        return false;
     }
-    2
+    s[at + 1] == 255
 }
 
 // The longest stretch of data at a place.
@@ -38,61 +36,65 @@ pub fn measure(s: &[u8], at: usize) -> Extent
     let mut i = at;
     let mut n = 0;
     while i < s.len() {
-        let w = width_at(s, i);
-        if w == 0 {
-            return Extent { count: n, end: i };
+        let plain = octets_find::find_byte(s, i, 255);
+        n += plain - i;
+        if !is_doubled(s, plain) {
+            return Extent {
+                count: n,
+                end: plain,
+            };
         }
-        i += w;
         n += 1;
+        i = plain + 2;
     }
     Extent { count: n, end: i }
 }
 
-// Copies the first `count` bytes of the stretch at a place, each doubled 255 as one, to a place of the buffer; where so many do not fit, nothing.
-pub fn copy(s: &[u8], from: usize, count: usize, out: &mut [u8], to: usize) -> bool
-    ensures { λ r. ⌜ outcome r (now (out .exit)) ≡ copyInto (now (s .entry)) from count (now (out .entry)) to ⌝ }
+// The smaller of two numbers.
+fn smaller(a: usize, b: usize) -> usize
+    ensures { λ r. ⌜ r ≡ min a b ⌝ }
 {
-    if octets::no_room(count, to, out.len()) {
-        return false;
+    if a < b {
+        return a;
     }
-    let end = to + count;
-    let mut i = from;
-    let mut k = to;
-    while k < end {
-        let w = width_at(s, i);
-        if w == 0 {
-            return true;
-        }
-        out[k] = s[i];
-        i += w;
-        k += 1;
-    }
-    true
+    b
 }
 
-// Copies the longest stretch of data at a place, each doubled 255 as one, to a place of the buffer, and tells it as `measure` does. One pass finds and
-// copies it, so room is asked for all that is left of the line; where there is none, copies nothing and tells an empty stretch.
+// Copies the bytes before the next 255, or as many of them as there is room for; the answer is how many.
+fn copy_plain(s: &[u8], at: usize, out: &mut [u8], to: usize) -> usize
+    requires { ⌜ to ≤ length (now out) ⌝ }
+    ensures { λ r. ⌜ PlainCopied (now (s .entry)) at (now (out .entry)) to r (now (out .exit)) ⌝ }
+{
+    let n = smaller(octets_find::find_byte(s, at, 255) - at, out.len() - to);
+    octets::put(octets_part::part(s, at, n), out, to);
+    n
+}
+
+// Copies the stretch of data at a place, each doubled 255 as one, to a place of the buffer, or as much of it as there is room for: how many bytes were
+// copied, and the place of the line behind them.
 pub fn copy_run(s: &[u8], at: usize, out: &mut [u8], to: usize) -> Extent
     ensures { λ r. ⌜ outcome r (now (out .exit)) ≡ copyRun (now (s .entry)) at (now (out .entry)) to ⌝ }
 {
-    if s.len() < at {
-        return Extent { count: 0, end: at };
-    }
-    if octets::no_room(s.len() - at, to, out.len()) {
-        return Extent { count: 0, end: at };
-    }
     let mut i = at;
     let mut k = to;
-    while i < s.len() {
-        let w = width_at(s, i);
-        if w == 0 {
+    while k < out.len() {
+        let n = copy_plain(s, i, out, k);
+        i += n;
+        k += n;
+        if out.len() <= k {
             return Extent {
                 count: k - to,
                 end: i,
             };
         }
-        out[k] = s[i];
-        i += w;
+        if !is_doubled(s, i) {
+            return Extent {
+                count: k - to,
+                end: i,
+            };
+        }
+        out[k] = 255;
+        i += 2;
         k += 1;
     }
     Extent {

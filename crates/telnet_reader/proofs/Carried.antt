@@ -24,7 +24,7 @@ use Rattle.telnet_data.specs.Promise.{count, span}
 use Rattle.telnet_reader.specs.near.Lead.{leadIn}
 use Rattle.telnet.specs.Record.{dataOf}
 use Rattle.telnet.proofs.Stretch.{doubled-longer}
-use Rattle.telnet_data.proofs.Widths.{span-within, count-within}
+use Rattle.telnet_data.proofs.Stretches.{span-within, count-within}
 use Rattle.telnet_reader.proofs.Places.{look-run}
 use Rattle.telnet_reader.specs.Promise.{answered, lookAt, delivered, readAt}
 use Rattle.refusal.specs.Refusal.{noRoom, pastTheEnd}

@@ -1,7 +1,8 @@
 // Reading one event at a place of a line. The caller owns the buffer; nothing is kept between calls. What is right is said in the crate
 // `telnet`; what is answered, and left in the buffer, in `specs/Promise.antt`.
 ghost use mathlib.Core.Path.{_≡_};
-ghost use Prim.Native.Nat.{_+_, _<_, _^_};
+ghost use Prim.Native.Nat.{_+_, _-_, _<_, _^_};
+ghost use lib.Dec.{leb};
 ghost use lib.ListN.{length, drop};
 ghost use Rattle.telnet.specs.Event.{lead};
 ghost use Rattle.telnet.specs.Read.{afterIac, afterSb, afterVerb};
@@ -153,7 +154,7 @@ fn deliver(s: &[u8], at: usize, out: &mut [u8]) -> Answer
             if out.len() < length {
                 return Answer::Refused(refusal::NO_ROOM);
             }
-            telnet_data::copy(s, data_place(kind, at), length, out, 0);
+            telnet_data::copy_run(s, data_place(kind, at), out, 0);
             return Answer::Found { kind, length, next };
         }
         Answer::End => {
@@ -165,11 +166,24 @@ fn deliver(s: &[u8], at: usize, out: &mut [u8]) -> Answer
     }
 }
 
+// Whether a buffer of so many bytes has room for all that is left of a line.
+fn holds_rest(s: &[u8], at: usize, room: usize) -> bool
+    ensures { λ r. ⌜ r ≡ leb (length (now (s .entry)) - at) room ⌝ }
+{
+    if s.len() <= at {
+        return true;
+    }
+    s.len() - at <= room
+}
+
 // The event at a place, with the bytes that it carries copied to the front of the buffer. A run is found and copied in one pass where there is room for all
 // that is left of the input.
 pub fn read(s: &[u8], at: usize, out: &mut [u8]) -> Answer
     ensures { λ r. ⌜ outcome r (now (out .exit)) ≡ readAt (now (s .entry)) at (now (out .entry)) ⌝ }
 {
+    if !holds_rest(s, at, out.len()) {
+        return deliver(s, at, out);
+    }
     let run = telnet_data::copy_run(s, at, out, 0);
     let count = run.count;
     if 0 < count {

@@ -14,6 +14,7 @@ use Rattle.octets.specs.Lent.{Outcome, outcome, overwrite}
 use Rattle.octets.proofs.Overwrite.{overwrite-append}
 use Rattle.refusal.specs.Refusal.{noRoom, pastTheEnd}
 use Rattle.telnet.specs.declared.Kind.{Kind}
+use Rattle.telnet.specs.declared.Kind.the-variants.{Data}
 use Rattle.telnet_reader.specs.declared.Answer.the-variants.{End, Found, Refused}
 use Rattle.telnet_records.specs.declared.Record.{Record}
 use Rattle.telnet_records.specs.declared.Record.the-variants.{Complete, Unfinished, Refused as NoRecord}
@@ -24,10 +25,13 @@ use Rattle.telnet.specs.Whole.{well, refusal}
 use Rattle.telnet.specs.Record.{isEndOfRecord, dataOf, Gathered, complete, noRecord, withEvent, gathered, recordOf}
 use Rattle.telnet_reader.specs.Promise.{answered, lookAt}
 use Rattle.telnet_records.specs.Promise.{answerNoRecord, kept, recordAt}
-use Rattle.telnet_records.specs.near.Gather.{dataLength, endsRecord, sized, sizedAt, recordData, dataAt, CanCopy, Copied}
+use Rattle.telnet_records.specs.near.Gather.{dataLength, endsRecord, sized, sizedAt, recordData, dataAt, CanCopy, Copied, CanPass, Passed}
 use Rattle.telnet.specs.Theorems.{readOn}
 use Rattle.telnet.proofs.Unroll.{unrolled}
-use Rattle.telnet_reader.proofs.Places.{looked}
+use Rattle.telnet_data.specs.declared.Extent.{Extent}
+use Rattle.telnet_data.specs.Promise.{count, span, copyRun}
+use Rattle.telnet_data.proofs.Copies.{run-some, run-empty, run-whole}
+use Rattle.telnet_reader.proofs.Places.{looked, look-run}
 use Rattle.telnet.proofs.Stretch.{doubled-longer}
 use Rattle.telnet_reader.proofs.Carried.{event-stands}
 
@@ -200,24 +204,45 @@ module _ (s : List ℕ) (i : ℕ) (h : i ≤ length s) where
         ∙ sized-joined n i (v .event) (recordOf (drop (i + w) s))
         ∙ ap₂ (λ m j. sized (n + m) j (recordOf (drop j s))) (sym added) (sym (v .its-next))
 
--- the data of an event that `look` found, put where there is room for the record's
-pub event-copied : (s : List ℕ) (i : ℕ) (out : List ℕ) (to : ℕ) → CanCopy s i out to → (k : Kind) (l x : ℕ) → lookAt s i ≡ Found k l x
-    → {n : ℕ} {out′ : List ℕ} → n ≡ length (undoubled (drop i s)) → out′ ≡ overwrite out to (undoubled (drop i s))
-    → Copied s i out to out′ (record { count = to + n; end = x })
-event-copied s i out to p k l x e m put =
+-- an event without data is passed, and the buffer is as it was
+pub event-passed : {s : List ℕ} {i : ℕ} → CanPass s i → (k : Kind) (l x : ℕ) → lookAt s i ≡ Found k l x → Passed s i x
+event-passed {s} {i} p k l x e =
     let f = found-further s i (p .within) k l x e in
     let d = data-goes s i (p .within) k l x e (p .some) in
-    let here = undoubled (drop i s) in
-    let behind = dataAt s x in
-    let all = ap length (d .1) ∙ length-append here behind in
-    record {
-      ahead = f .0;
-      within = f .1;
-      whole = omega (arith, all, m);
-      same =
-          ap₂ (λ o j. overwrite o (to + j) behind) put m
-          ∙ overwrite-append out to here behind (omega (arith, p .room, all)) ∙ ap (overwrite out to) (sym (d .1));
-    }
+    record { ahead = f .0; within = f .1; same = sym (d .1 ∙ ap (λ b. b ++ dataAt s x) (p .none)) }
+
+pub passed-copied : (s : List ℕ) (i : ℕ) (out : List ℕ) (to j : ℕ) → Passed s i j → Copied s i out to out (record { count = to; end = j })
+passed-copied s i out to j p =
+    record { ahead = p .ahead; within = p .within; whole = ap (λ d. to + length d) (p .same); same = ap (overwrite out to) (p .same) }
+
+-- what `copy_run` copies where there is room for the record's data
+module _ (s : List ℕ) (i : ℕ) (out : List ℕ) (to : ℕ) (p : CanCopy s i out to) {r : Extent} {l : List ℕ} (e : outcome r l ≡ copyRun s i out to) where
+  -- a run is the event's data
+  pub run-copied : 0 < r .count → Copied s i out to l (record { count = to + r .count; end = r .end })
+  unfolding count
+  run-copied h =
+      let here = undoubled (drop i s) in
+      let at-run = look-run s i (p .within) (run-some s i out to e h) in
+      let all = data-goes s i (p .within) Data (count (drop i s)) (i + span (drop i s)) at-run (p .some) .1 in
+      let lengths = ap length all ∙ length-append here (dataAt s (i + span (drop i s))) in
+      let run = run-whole s i out to e (omega (arith, p .room, lengths)) in
+      let looked-at = at-run ∙ sym (ap₂ (Found Data) (run .told .counted) (run .told .ended)) in
+      let f = found-further s i (p .within) Data (r .count) (r .end) looked-at in
+      let d = data-goes s i (p .within) Data (r .count) (r .end) looked-at (p .some) in
+      let behind = dataAt s (r .end) in
+      let total = ap length (d .1) ∙ length-append here behind in
+      record {
+        ahead = f .0;
+        within = f .1;
+        whole = omega (arith, total, d .0);
+        same =
+            ap₂ (λ o n. overwrite o (to + n) behind) (run .lent) (d .0)
+            ∙ overwrite-append out to here behind (omega (arith, p .room, total)) ∙ ap (overwrite out to) (sym (d .1));
+      }
+
+  -- where there is none, the event adds nothing
+  pub none-copied : r .count ≡ 0 → CanPass s i
+  none-copied h = record { within = p .within; some = p .some; none = run-empty s i out to e h (omega (arith, p .some, p .room)) }
 
 -- what `read_record` leaves, by what was found
 abbrev pub keeping : List ℕ → ℕ → List ℕ → Record → Outcome Record

@@ -3,7 +3,7 @@
 ghost use mathlib.Core.Path.{_≡_};
 ghost use Prim.Native.Nat.{_≤_};
 ghost use lib.ListN.{length};
-ghost use Rattle.telnet_records.specs.near.Gather.{dataLength, endsRecord, sizedAt, dataAt, Advanced, CanCopy, Copied};
+ghost use Rattle.telnet_records.specs.near.Gather.{dataLength, endsRecord, sizedAt, dataAt, Advanced, CanCopy, Copied, CanPass, Passed};
 ghost use Rattle.telnet_records.specs.Promise.{recordAt};
 ghost use Rattle.octets.specs.Lent.{outcome, overwrite};
 use telnet::Kind;
@@ -95,31 +95,29 @@ fn find_record(s: &[u8], at: usize) -> Record
     Record::Unfinished
 }
 
-// Copies what the event at a place adds to a record, behind `to` bytes of it. The event is looked at first.
-fn copy_looked(s: &[u8], at: usize, out: &mut [u8], to: usize) -> Extent
-    requires { ⌜ CanCopy (now s) at (now out) to ⌝ }
-    ensures { λ r. ⌜ Copied (now (s .entry)) at (now (out .entry)) to (now (out .exit)) r ⌝ }
+// The place behind the event at a place, which adds nothing to a record.
+fn pass_event(s: &[u8], at: usize) -> usize
+    requires { ⌜ CanPass (now s) at ⌝ }
+    ensures { λ r. ⌜ Passed (now (s .entry)) at r ⌝ }
 {
     match telnet_reader::look(s, at) {
-        Answer::Found { kind, length, next } => {
-            let added = data_length(kind, length);
-            telnet_data::copy(s, at, added, out, to);
-            return Extent {
-                count: to + added,
-                end: next,
-            };
+        Answer::Found {
+            kind: _,
+            length: _,
+            next,
+        } => {
+            return next;
         }
         Answer::End => {
-            return Extent { count: to, end: at };
+            return at;
         }
         Answer::Refused(_) => {
-            return Extent { count: to, end: at };
+            return at;
         }
     }
 }
 
-// Copies what the event at a place adds to a record, behind `to` bytes of it. A run is found and copied in one pass where there is room for all that is
-// left of the input.
+// Copies what the event at a place adds to a record, behind `to` bytes of it. A run is found and copied in one pass.
 fn copy_event(s: &[u8], at: usize, out: &mut [u8], to: usize) -> Extent
     requires { ⌜ CanCopy (now s) at (now out) to ⌝ }
     ensures { λ r. ⌜ Copied (now (s .entry)) at (now (out .entry)) to (now (out .exit)) r ⌝ }
@@ -132,7 +130,10 @@ fn copy_event(s: &[u8], at: usize, out: &mut [u8], to: usize) -> Extent
             end: run.end,
         };
     }
-    copy_looked(s, at, out, to)
+    Extent {
+        count: to,
+        end: pass_event(s, at),
+    }
 }
 
 // Copies the data of the record from a place on, of which there are `total` bytes.

@@ -1,60 +1,63 @@
--- `telnet_data::measure` meets its contract. The invariant: what the stretch still has from here, with what was passed, is the whole, and no
--- more bytes were counted than passed. The measure is what is left of the line. Assumes nothing.
-use mathlib.Core.Path.{_≡_, sym, _∙_}
-use Prim.Native.Nat.{_+_, _-_, _≤_}
+-- `telnet_data::measure` meets its contract. The invariant: so many bytes of the stretch as are counted stand before the place where the loop is. The
+-- measure is what is left of the line. Assumes nothing.
+use mathlib.Core.Path.{sym, _∙_}
+use Prim.Native.Nat.{_+_, _-_}
 use native.Mathlib.Omega.{arith}
-use lib.ListN.{length, drop}
+use lib.ListN.{length}
 use borrow.Author.Needs.{needs}
-use Rattle.telnet_data.specs.Promise.{count, span}
-use Rattle.telnet_data.proofs.Widths.{Next, next, none-next, width-end, extent-is}
+use borrow.Author.Tests.{not-true, not-false}
+use Rattle.telnet_data.proofs.Stretches.{Passed, pass-none, pass-within, pass-plain, pass-doubled, pass-all, stopped, ended}
 use Rattle.telnet_data.proofs.measure.Statement.{statement}
 use Rattle.telnet_data.proofs.measure.Tie as tie
 
 abbrev Inv-loop : tie.InvT-loop
-Inv-loop s at i₀ n₀ i n = (n ≤ i) × (n + count (drop i s) ≡ count (drop at s)) × (i + span (drop i s) ≡ at + span (drop at s))
+Inv-loop s at i₀ n₀ i n = Passed s at i n
 
 abbrev μ-loop : tie.MeasureT-loop
 μ-loop s at i₀ n₀ i n = length s - i
 
--- the data byte that a turn passes
-passed : (c : tie.Else1 Inv-loop μ-loop)
-    → Next (c .before .before .before .before .before .args .s .now) (c .before .before .before .loop .i) (c .before .width-at .result)
-passed c =
-    next (c .before .before .before .before .before .args .s .now) (c .before .before .before .loop .i) (c .before .width-at .result)
-    (c .before .width-at .ensures)
-    (omega arith)
+-- the plain bytes that a turn finds
+found : (c : tie.After-find-byte Inv-loop μ-loop)
+    → Passed (c .before .before .before .before .args .s .now) (c .before .before .before .before .args .at) (c .find-byte .result)
+    (c .before .before .loop .n + (c .find-byte .result - c .before .before .loop .i))
+found c = pass-plain (c .before .before .loop .inv) (c .find-byte .result) (c .find-byte .ensures)
+
+-- and the doubled 255 behind them
+loop-again : tie.Need-loop-again Inv-loop μ-loop
+loop-again c = pass-doubled (found (c .before .before)) (sym (c .before .is-doubled .ensures) ∙ not-false _ (c .if1 .left))
 
 loop-holds : tie.Need-loop-holds Inv-loop μ-loop
-loop-holds c = search needs
+loop-holds c = pass-none (c .before .args .s .now) (c .before .args .at)
 
-width-at-requires : tie.Need-width-at-requires Inv-loop μ-loop
-width-at-requires c κs = search needs
+find-byte-requires : tie.Need-find-byte-requires Inv-loop μ-loop
+find-byte-requires c κs = search needs
+
+sub-n : tie.Need-sub-n Inv-loop μ-loop
+sub-n c = search needs
+
+add-n : tie.Need-add-n Inv-loop μ-loop
+add-n c = omega (arith, pass-within (found c))
+
+is-doubled-requires : tie.Need-is-doubled-requires Inv-loop μ-loop
+is-doubled-requires c κs = search needs
 
 returns : tie.Need-returns Inv-loop μ-loop
 returns c =
-    let l = c .before .before .before .loop in
-    let a = c .before .before .before .before .before .args in
-    let none = none-next (a .s .now) (l .i) (sym (c .before .width-at .ensures) ∙ c .if1 .taken) in
-    extent-is (a .s .now) (a .at) _ _ (omega arith) (omega arith)
+    let s = c .before .before .before .before .before .before .args .s .now in
+    pass-all (found (c .before .before)) (stopped s (c .before .before .before .before .loop .i) (c .before .before .find-byte .result)
+    (c .before .before .find-byte .ensures) (sym (c .before .is-doubled .ensures) ∙ not-true _ (c .if1 .taken)))
+
+add-n-2 : tie.Need-add-n-2 Inv-loop μ-loop
+add-n-2 c = omega (arith, pass-within (loop-again c))
 
 add-i : tie.Need-add-i Inv-loop μ-loop
-add-i c = omega (arith, passed c)
-
-add-n : tie.Need-add-n Inv-loop μ-loop
-add-n c = omega (arith, passed c)
+add-i c = omega (arith, pass-within (loop-again c))
 
 loop-less : tie.Need-loop-less Inv-loop μ-loop
-loop-less c = omega (arith, passed c)
-
-loop-again : tie.Need-loop-again Inv-loop μ-loop
-loop-again c = omega (arith, passed c)
+loop-less c = omega (arith, pass-within (loop-again c))
 
 returns-2 : tie.Need-returns-2 Inv-loop μ-loop
-returns-2 c =
-    let l = c .before .loop in
-    let a = c .before .before .before .args in
-    let none = none-next (a .s .now) (l .i) (width-end (a .s .now) (l .i) (c .loop-test .left)) in
-    extent-is (a .s .now) (a .at) _ _ (omega arith) (omega arith)
+returns-2 c = pass-all (c .before .loop .inv) (ended _ _ (c .loop-test .left))
 
 pub measure-spec : {M : Type 1} → statement M
 measure-spec =
@@ -63,10 +66,13 @@ measure-spec =
     Inv-loop
     μ-loop
     loop-holds
-    width-at-requires
-    returns
-    add-i
+    find-byte-requires
+    sub-n
     add-n
+    is-doubled-requires
+    returns
+    add-n-2
+    add-i
     loop-less
     loop-again
     returns-2)

@@ -12,7 +12,8 @@ use Rattle.telnet_reader.specs.declared.Answer.the-variants.{End, Found,
 use Rattle.telnet.specs.Read.{undoubled}
 use Rattle.telnet_reader.specs.near.Lead.{leadIn}
 use Rattle.telnet_reader.specs.Promise.{lookAt, readAt}
-use Rattle.telnet_data.proofs.Copies.{copy-whole}
+use Rattle.telnet_data.specs.Promise.{count}
+use Rattle.telnet_data.proofs.Copies.{run-whole}
 use Rattle.telnet_reader.proofs.Carried.{Placed, looked-placed, delivering, read-delivers}
 use borrow.Author.Needs.{needs}
 use Rattle.telnet_reader.proofs.deliver.Statement.{statement}
@@ -46,13 +47,14 @@ data-place-requires c κs =
     let e = sym (c .before .before .before .before .look .ensures) ∙ c .before .before .answer .given .1 in
     omega (arith, placed (a .s .now) (a .at) (v .0) (v .1 .0) (v .1 .1 .0) e)
 
-copy-requires : tie.Need-copy-requires
-copy-requires c κs = search needs
+copy-run-requires : tie.Need-copy-run-requires
+copy-run-requires c κs = search needs
 
 same-length : tie.Need-same-length
 same-length c = search needs
 
 returns-2 : tie.Need-returns-2
+unfolding count
 returns-2 c =
     let a = c .before .before .before .before .before .before .before .before .before .before .before .before .args in
     let v = c .before .before .before .before .before .before .before .answer .given .0 in
@@ -61,7 +63,7 @@ returns-2 c =
     ∙ c .before .before .before .before .before .before .before .answer .given .1 in
     let from = c .before .before .before .before .data-place in
     let n = placed (a .s .now) (a .at) (v .0) (v .1 .0) (v .1 .1 .0) e .1 ∙ ap (λ i. length (undoubled (drop i (a .s .now)))) (sym (from .ensures)) in
-    let whole = copy-whole (a .s .now) (from .result) (v .1 .0) (a .out .now) 0 (omega arith) n (c .before .before .copy .ensures) in
+    let whole = run-whole (a .s .now) (from .result) (a .out .now) 0 (c .before .before .copy-run .ensures) (omega (arith, n)) .lent in
     ap (outcome r) (whole ∙ ap (λ i. overwrite (a .out .now) 0 (undoubled (drop i (a .s .now)))) (from .ensures))
     ∙ sym (leaves (a .s .now) (a .at) (a .out .now) r e ∙ rw (le-ltb (length (a .out .now)) (v .1 .0) (omega arith)))
 
@@ -90,7 +92,7 @@ deliver-spec =
     enum-known-answer
     returns
     data-place-requires
-    copy-requires
+    copy-run-requires
     same-length
     returns-2
     enum-told

@@ -3,7 +3,7 @@ use mathlib.Core.Path.{sym, ap₂, _∙_}
 use native.Mathlib.Omega.{arith}
 use Rattle.telnet_reader.specs.declared.Answer.the-variants.{Found}
 use Rattle.telnet.specs.declared.Kind.the-variants.{Data}
-use Rattle.telnet_data.proofs.Widths.{Measured, measured}
+use Rattle.telnet_data.proofs.Stretches.{Measured, measured}
 use Rattle.telnet_reader.proofs.Places.{look-past, look-run, look-end, look-command}
 use borrow.Author.Needs.{needs}
 use Rattle.telnet_reader.proofs.look.Statement.{statement}

@@ -5,7 +5,7 @@ use native.Mathlib.Omega.{arith}
 use lib.ListN.{drop, getD, length-drop}
 use Rattle.telnet_reader.specs.declared.Answer.the-variants.{Found}
 use Rattle.telnet.specs.declared.Kind.the-variants.{Subnegotiation}
-use Rattle.telnet_data.proofs.Widths.{span-within, Measured, measured}
+use Rattle.telnet_data.proofs.Stretches.{span-within, Measured, measured}
 use Rattle.telnet_reader.proofs.Places.{sb-cut, sb-long, sb-short, sb-undoubled, sb-found}
 use borrow.Author.Needs.{needs}
 use Rattle.telnet_reader.proofs.subnegotiation.Statement.{statement}

@@ -14,6 +14,7 @@ use Rattle.telnet_records.specs.declared.Progress.{Progress}
 use Rattle.telnet_records.specs.declared.Progress.the-variants.{More, Done}
 use Rattle.telnet_data.specs.declared.Extent.{Extent}
 use Rattle.telnet.specs.Event.{eor}
+use Rattle.telnet.specs.Read.{undoubled}
 use Rattle.telnet.specs.Record.{Gathered, complete, noRecord, recordOf}
 use Rattle.telnet_records.specs.Promise.{answerNoRecord}
 use Rattle.octets.specs.Lent.{overwrite}
@@ -67,3 +68,15 @@ pub record Copied (s : List ℕ) (i : ℕ) (out : List ℕ) (to : ℕ) (out′ :
   pub within : r .end ≤ length s
   pub whole : r .count + length (dataAt s (r .end)) ≡ to + length (dataAt s i)
   pub same : overwrite out′ (r .count) (dataAt s (r .end)) ≡ overwrite out to (dataAt s i)
+
+-- data of the record are left at place i, and the event there adds none
+pub record CanPass (s : List ℕ) (i : ℕ) : Type 0 where
+  pub within : i ≤ length s
+  pub some : 0 < length (dataAt s i)
+  pub none : undoubled (drop i s) ≡ []
+
+-- that event passed: behind it the same data are left
+pub record Passed (s : List ℕ) (i j : ℕ) : Type 0 where
+  pub ahead : i < j
+  pub within : j ≤ length s
+  pub same : dataAt s j ≡ dataAt s i
