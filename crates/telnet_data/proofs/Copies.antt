@@ -37,7 +37,8 @@ put-none s at out to = record {
 
 module _ {s : List ℕ} {at : ℕ} {out : List ℕ} {to i k : ℕ} {left : List ℕ} (p : Put s at out to i k left) where
   -- one piece more
-  put-piece : (x : List ℕ) {j m : ℕ} {l : List ℕ} → Piece s i x j → m ≡ k + length x → m ≤ length left → l ≡ overwrite left k x → Put s at out to j m l
+  put-piece : (x : List ℕ) {j m : ℕ} {l : List ℕ} → Piece s i x j → m ≡ k + length x → m ≤ length left → l ≡ overwrite left k x
+      → Put s at out to j m l
   put-piece x q e h f =
       let d = p .bytes in
       record {

@@ -3,10 +3,9 @@
 use mathlib.Core.Path.{sym, _∙_}
 use Prim.Native.Nat.{_+_, _-_}
 use native.Mathlib.Omega.{arith}
-use lib.ListN.{length, set}
+use lib.ListN.{length}
 use borrow.Author.Needs.{needs}
 use borrow.Author.Tests.{not-true, not-false}
-use Rattle.telnet.specs.Event.{iac}
 use Rattle.telnet_data.proofs.Stretches.{within, stopped}
 use Rattle.telnet_data.proofs.Copies.{Put, put-none, put-plain, put-doubled, put-whole, put-full}
 use Rattle.telnet_data.proofs.copy_run.Statement.{statement}
@@ -20,7 +19,8 @@ abbrev μ-loop : tie.MeasureT-loop
 
 -- the plain bytes that a turn copies
 plains : (c : tie.After-slice-known2 Inv-loop μ-loop)
-    → Put (c .before .before .before .before .before .before .before .before .args .s .now) (c .before .before .before .before .before .before .before .before .args .at)
+    → Put (c .before .before .before .before .before .before .before .before .args .s .now)
+    (c .before .before .before .before .before .before .before .before .args .at)
     (c .before .before .before .before .before .before .before .before .args .out .now) (c .before .before .before .before .before .before .before .before .args .to)
     (c .before .before .before .before .before .loop .i + c .before .before .copy-plain .result)
     (c .before .before .before .before .before .loop .k + c .before .before .copy-plain .result) (c .before .before .copy-plain .last .1 .1 .0)

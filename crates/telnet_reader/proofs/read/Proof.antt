@@ -10,7 +10,7 @@ use Rattle.octets.specs.Lent.{outcome}
 use Rattle.telnet.specs.declared.Kind.the-variants.{Data}
 use Rattle.telnet_data.specs.Promise.{count}
 use Rattle.telnet_data.proofs.Stretches.{count-within}
-use Rattle.telnet_data.proofs.Copies.{run-some, run-none, run-whole}
+use Rattle.telnet_data.proofs.Copies.{run-none, run-whole}
 use Rattle.telnet_reader.specs.declared.Answer.the-variants.{Found}
 use Rattle.telnet_reader.specs.Promise.{readAt}
 use Rattle.telnet_reader.proofs.Carried.{read-run}
@@ -39,12 +39,12 @@ returns-2 : tie.Need-returns-2
 returns-2 c =
     let a = c .before .before .before .before .before .before .before .before .before .args in
     let bs = drop (a .at) (a .s .now) in
-    let e = c .before .before .before .copy-run .ensures in
-    let holds = leb-true (length (a .s .now) - a .at) (length (a .out .now)) (sym (c .before .before .before .before .before .before .holds-rest .ensures) ∙ not-false _ (c .before .before .before .before .before .if1 .left)) in
+    let holds = leb-true (length (a .s .now) - a .at) (length (a .out .now))
+    (sym (c .before .before .before .before .before .before .holds-rest .ensures) ∙ not-false _ (c .before .before .before .before .before .if1 .left)) in
     let room : count bs ≤ length (a .out .now) = omega (arith, holds, count-within bs, length-drop (a .at) (a .s .now)) in
-    let run = run-whole (a .s .now) (a .at) (a .out .now) 0 e (omega arith) in
+    let run = run-whole (a .s .now) (a .at) (a .out .now) 0 (c .before .before .before .copy-run .ensures) (omega arith) in
     ap₂ outcome (ap₂ (Found Data) (run .told .counted) (run .told .ended)) (run .lent)
-    ∙ sym (read-run (a .s .now) (a .at) (a .out .now) (run-some (a .s .now) (a .at) (a .out .now) 0 e (omega arith)) room)
+    ∙ sym (read-run (a .s .now) (a .at) (a .out .now) (omega (arith, run .told .counted)) room)
 
 deliver-requires-2 : tie.Need-deliver-requires-2
 deliver-requires-2 c κs = search needs

@@ -1,38 +1,30 @@
 -- `telnet_records::copy_event` meets its contract: a run that was copied is the event's data, and where none was the buffer is as it was.
 -- Assumes nothing.
-use Prim.Native.Nat.{_+_}
 use native.Mathlib.Omega.{arith}
 use Rattle.telnet_data.proofs.Copies.{run-none}
-use Rattle.telnet_records.specs.near.Gather.{Copied}
 use Rattle.telnet_records.proofs.Gathering.{run-copied, none-copied, passed-copied}
 use borrow.Author.Needs.{needs}
 use Rattle.telnet_records.proofs.copy_event.Statement.{statement}
 use Rattle.telnet_records.proofs.copy_event.Tie as tie
 
--- the run that was copied
-run : (c : tie.Then1)
-    → Copied (c .before .before .before .before .before .before .before .args .s .now) (c .before .before .before .before .before .before .before .args .at) (c .before .before .before .before .before .before .before .args .out .now) (c .before .before .before .before .before .before .before .args .to) (c .before .before .before .copy-run .last .1 .1 .0)
-    (record { count = c .before .before .before .before .before .before .before .args .to + c .before .before .before .copy-run .result .count; end = c .before .before .before .copy-run .result .end })
-run c =
-    let a = c .before .before .before .before .before .before .before .args in
-    run-copied (a .s .now) (a .at) (a .out .now) (a .to) (c .before .before .before .before .before .before .before .pre) (c .before .before .before .copy-run .ensures) (omega arith)
+returns : tie.Need-returns
+returns c =
+    let b = c .before .before .before .before .before .before .before in
+    run-copied (b .args .s .now) (b .args .at) (b .args .out .now) (b .args .to) (b .pre) (c .before .before .before .copy-run .ensures) (omega arith)
 
 copy-run-requires : tie.Need-copy-run-requires
 copy-run-requires c κs = search needs
 
 add-t10 : tie.Need-add-t10
-add-t10 c = omega (arith, run c .whole, c .before .before .before .before .before .before .before .pre .room)
+add-t10 c = omega (arith, returns c .whole, c .before .before .before .before .before .before .before .pre .room)
 
 same-length : tie.Need-same-length
 same-length c = search needs
 
-returns : tie.Need-returns
-returns c = run c
-
 pass-event-requires : tie.Need-pass-event-requires
 pass-event-requires c κs =
-    let a = c .before .before .before .before .before .before .before .args in
-    none-copied (a .s .now) (a .at) (a .out .now) (a .to) (c .before .before .before .before .before .before .before .pre) (c .before .before .before .copy-run .ensures) (omega arith)
+    let b = c .before .before .before .before .before .before .before in
+    none-copied (b .args .s .now) (b .args .at) (b .args .out .now) (b .args .to) (b .pre) (c .before .before .before .copy-run .ensures) (omega arith)
 
 same-length-2 : tie.Need-same-length-2
 same-length-2 c = search needs

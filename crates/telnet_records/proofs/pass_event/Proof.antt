@@ -16,7 +16,8 @@ enum-known-next c = search needs
 returns : tie.Need-returns
 returns c =
     let v = c .before .next .given .0 in
-    event-passed (c .before .before .before .before .before .pre) (v .0) (v .1 .0) (v .1 .1 .0) (sym (c .before .before .before .look .ensures) ∙ c .before .next .given .1)
+    event-passed (c .before .before .before .before .before .pre) (v .0) (v .1 .0) (v .1 .1 .0)
+    (sym (c .before .before .before .look .ensures) ∙ c .before .next .given .1)
 
 enum-told : tie.Need-enum-told
 enum-told c = search needs
