@@ -1,16 +1,23 @@
-// The tokens of a profile, lent out of the table where its record stands.
+// The tokens of a profile, lent out of the table where its record stands, and whether it allows DES.
 ghost use mathlib.Core.Path.{_≡_};
 ghost use Prim.Native.Nat.{_+_, _<_};
 ghost use lib.ListN.{take, drop};
-ghost use Rattle.profile.specs.Profile.{version1, desToken, shaToken};
+ghost use Rattle.profile.specs.Profile.{version1, desAllowed, desToken, shaToken};
 ghost use Rattle.profile.specs.Table.{nameLengthAt, profileAt};
+
+// The bytes of a table from a place on, or none behind its end.
+fn record_at(table: &[u8], at: usize) -> &[u8]
+    ensures { λ r. ⌜ now r ≡ drop at (now (table .entry)) ⌝ }
+{
+    octets_part::part(table, at, table.len())
+}
 
 // Bytes of the tokens of the record at a place of a table, from one of them on.
 fn token_part(table: &[u8], at: usize, from: usize, count: usize) -> &[u8]
     requires { ⌜ from < 256 ⌝ }
     ensures { λ r. ⌜ now r ≡ take count (drop from (drop (4 + nameLengthAt (drop at (now (table .entry)))) (drop at (now (table .entry))))) ⌝ }
 {
-    let record = octets_part::part(table, at, table.len());
+    let record = record_at(table, at);
     let n = octets_part::byte_at(record, 3) as usize;
     octets_part::part(record, 4 + n + from, count)
 }
@@ -27,4 +34,12 @@ pub fn sha_token(table: &[u8], at: usize) -> &[u8]
     ensures { λ r. ⌜ now r ≡ shaToken (profileAt version1 (drop at (now (table .entry)))) ⌝ }
 {
     token_part(table, at, 8, 20)
+}
+
+// Whether its flags allow DES.
+pub fn des_allowed(table: &[u8], at: usize) -> bool
+    ensures { λ r. ⌜ r ≡ desAllowed (profileAt version1 (drop at (now (table .entry)))) ⌝ }
+{
+    let flags = octets_part::byte_at(record_at(table, at), 2);
+    flags / 2 % 2 == 1
 }

@@ -1,0 +1,22 @@
+-- `profile_tokens::des_allowed` meets its contract: the flags are the third byte of the record. Assumes nothing.
+use mathlib.Core.Path.{ap, _∙_}
+use Prim.Native.Nat.{ℕ, _/_, _%_}
+use lib.Dec.{eqb}
+use Rattle.profile.specs.Profile.{marksOf}
+use Rattle.profile.specs.Table.{flagsAt}
+use borrow.Author.Needs.{needs}
+use Rattle.profile_tokens.proofs.des_allowed.Statement.{statement}
+use Rattle.profile_tokens.proofs.des_allowed.Tie as tie
+
+record-at-requires : tie.Need-record-at-requires
+record-at-requires c κs = search needs
+
+byte-at-requires : tie.Need-byte-at-requires
+byte-at-requires c κs = search needs
+
+returns : tie.Need-returns
+unfolding marksOf
+returns c = ap (λ (f : ℕ). eqb (f / 2 % 2) 1) (c .byte-at .ensures ∙ ap flagsAt (c .before .record-at .ensures))
+
+pub des-allowed-spec : {M : Type 1} → statement M
+des-allowed-spec = tie.close (tie.spec record-at-requires byte-at-requires returns)
