@@ -65,3 +65,8 @@ desSubstitute serverSeed user seed value p = not (isClear seed) && (desAllowed p
 -- or a 20-byte value is the SHA-1 substitute."
 unfoldable pub shaSubstitute : List ℕ → List ℕ → List ℕ → List ℕ → Profile → Bool
 shaSubstitute serverSeed user seed value p = not (isClear seed) && givesSha (shaToken p) user serverSeed seed value
+
+-- one of the two rules holds
+unfoldable pub isProved : List ℕ → List ℕ → List ℕ → List ℕ → Profile → Bool
+isProved serverSeed user seed value p =
+    clearPassword user seed value p || (desSubstitute serverSeed user seed value p || shaSubstitute serverSeed user seed value p)

@@ -1,18 +1,15 @@
 -- The code's order of decisions is the definition's. Assumes nothing.
 use mathlib.Core.Path.{_≡_, refl, sym, ap, subst, _∙_}
 use mathlib.Core.Bool.{Bool, true, false, not, _&&_, _||_}
-use mathlib.Core.List.{List, [], _∷_}
-use Prim.Native.Nat.{ℕ, _<_}
+use mathlib.Core.List.{List, []}
+use Prim.Native.Nat.{ℕ}
 use native.Mathlib.Omega.{arith}
 use lib.Dec.{T}
-use lib.ListN.{length, drop, replicate}
 use denote.Floats.{is-true}
 use Rattle.octets.specs.Bytes.{Bytes}
 use Rattle.octets.specs.Choice.{if_then_else_}
-use Rattle.octets.specs.Same.{same}
-use Rattle.octets.proofs.Equality.{same-differ}
 use Rattle.env.specs.Variable.{Variable, VAR, USERVAR, Lookup, absent, present, lookup, valueOr}
-use Rattle.env.specs.Read.{Reading, says, notRead}
+use Rattle.env.specs.Read.{says, notRead}
 use Rattle.env.specs.Numbers.{held}
 use Rattle.env_records.specs.declared.ValuePlace.{ValuePlace}
 use Rattle.env_records.specs.Records.{placeOf}
@@ -20,7 +17,7 @@ use Rattle.env_records.specs.Theorems.{valueAt}
 use Rattle.env_records.proofs.Found.{finds-the-value}
 use Rattle.names.specs.Name.{raised, isName, isRaisedName, profileLimit}
 use Rattle.names.proofs.Held.{raised-is-raised}
-use Rattle.profile.specs.Profile.{version1, Profile, enabled, desAllowed, desToken, shaToken}
+use Rattle.profile.specs.Profile.{version1, Profile, enabled}
 use Rattle.profile.specs.Table.{TableReading, profiles, tableRefused, tableOf}
 use Rattle.profile.specs.Lookup.{ProfileLookup, noProfile, oneProfile, profileNamed}
 use Rattle.profile.specs.Theorems.{Ascending}
@@ -30,52 +27,20 @@ use Rattle.profile_table.specs.declared.TableCheck.{TableCheck}
 use Rattle.profile_table.specs.declared.TableCheck.the-variants.{Profiles, Refused as NotRead}
 use Rattle.profile_table.specs.declared.Found.{Found}
 use Rattle.profile_table.specs.declared.Found.the-variants.{Present, Absent, Refused as NotFound}
-use Rattle.profile_table.specs.Answer.{checked, entry, foundIn}
+use Rattle.profile_table.specs.Answer.{checked, foundIn}
 use Rattle.profile_table.specs.Theorems.{standing, Tells}
 use Rattle.profile_table.proofs.Meaning.{found-is-named}
-use Rattle.password_check.specs.Gives.{givesClear, givesDes, givesSha}
-use Rattle.signon.specs.declared.Verdict.{Verdict}
 use Rattle.signon.specs.declared.Verdict.the-variants.{Panel, NotKnown, Disabled, Failed, Grant}
-use Rattle.signon.specs.declared.Answer.{Answer}
 use Rattle.signon.specs.declared.Answer.the-variants.{Given, Refused}
-use Rattle.signon.specs.Attempt.{USER, IBMRSEED, IBMSUBSPW, Attempt, attempt, isPresent, ofProfile, isClear, clearPassword, desSubstitute, shaSubstitute}
+use Rattle.signon.specs.Attempt.{USER, IBMRSEED, IBMSUBSPW, Attempt, attempt, isPresent, clearPassword, desSubstitute, shaSubstitute, isProved}
 use Rattle.signon.specs.Verdict.{firstOf, grantConditions, profileConditions, conditions, verdictOf, answerBy}
 use Rattle.signon.proofs.Sentences.{formed-in}
-use Rattle.signon_verdict.specs.near.Decisions.{userOf, seedOf, offeredOf, seedGiven, offerGiven, isPanel, unknownVerdict, isProved, judged, knownVerdict}
+use Rattle.signon_verdict.specs.near.Decisions.{userOf, seedOf, offeredOf, seedGiven, offerGiven, isPanel, unknownVerdict, judged, knownVerdict}
 
 -- whether a variable is there, by the place of its value
 pub there-by : (kind : ℕ) (name bytes numbers : List ℕ) (p q : ValuePlace) → p ≡ placeOf kind name bytes numbers → p ≡ q
     → isPresent (valueAt bytes q) ≡ isPresent (lookup kind name (held bytes numbers))
 there-by kind name bytes numbers p q e told = ap isPresent (ap (valueAt bytes) (sym told ∙ e) ∙ finds-the-value kind name bytes numbers)
-
--- clear seeds
-pub empty-clear : (seed : List ℕ) → length seed ≡ 0 → isClear seed ≡ true
-unfolding isClear same
-empty-clear [] h = refl
-empty-clear (b ∷ bs) h = absurd (omega arith)
-
-pub zeros-clear : (seed : List ℕ) → 0 < length seed → isClear seed ≡ same seed (replicate 8 0)
-unfolding isClear
-zeros-clear seed h = rw (same-differ seed [] (λ e. omega arith))
-
--- the two rules, by the code's tests
-module _ (s user seed offered : List ℕ) (p : Profile) where
-  pub by-clear : isClear seed ≡ true → isProved s user seed offered p ≡ givesClear user offered (shaToken p)
-  unfolding isProved clearPassword desSubstitute shaSubstitute
-  by-clear c = rw c (or-none (givesClear user offered (shaToken p)))
-    where
-      or-none : (b : Bool) → (b || (false || false)) ≡ b
-      or-none true = refl
-      or-none false = refl
-
-  pub by-des : isClear seed ≡ false → (desAllowed p && givesDes (desToken p) user s seed offered) ≡ true → isProved s user seed offered p ≡ true
-  unfolding isProved clearPassword desSubstitute shaSubstitute
-  by-des c d = rw (c, d)
-
-  pub by-sha : isClear seed ≡ false → (desAllowed p && givesDes (desToken p) user s seed offered) ≡ false
-      → isProved s user seed offered p ≡ givesSha (shaToken p) user s seed offered
-  unfolding isProved clearPassword desSubstitute shaSubstitute
-  by-sha c d = rw (c, d)
 
 -- three conditions for GRANT that ask for both USERVARs
 granted-once : (a b x y z : Bool)
@@ -129,7 +94,7 @@ user-good (present u) e = (refl, sym (raised-is-raised profileLimit u) ∙ e)
 abbrev pub Decides : List ℕ → List ℕ → List Variable → Found → Type 0
 Decides seed table vs Absent = Given (unknownVerdict vs) ≡ answerBy seed (tableOf table) (says 0 vs)
 Decides seed table vs (Present e) =
-    (Given (knownVerdict seed vs (standing table (e .at))) ≡ answerBy seed (tableOf table) (says 0 vs)) × (e ≡ entry (e .at) (standing table (e .at)))
+    (Given (knownVerdict seed vs (standing table (e .at))) ≡ answerBy seed (tableOf table) (says 0 vs)) × (e .enabled ≡ enabled (standing table (e .at)))
 Decides seed table vs (NotFound n) = Refused n ≡ answerBy seed (tableOf table) (says 0 vs)
 
 module _ (seed table : List ℕ) (vs : List Variable) (bytes : Bytes table) where
@@ -152,7 +117,7 @@ module _ (seed table : List ℕ) (vs : List Variable) (bytes : Bytes table) wher
         let raisedName : isRaisedName profileLimit name ≡ true =
         is-true (isRaisedName profileLimit name) (subst (λ l. T (isRaisedName profileLimit l)) (sym (m .1)) (formed .name)) in
         let u = user-good (lookup VAR USER vs) raisedName in
-        (rw (← known seed vs p (u .0) (u .1)) (given (oneProfile p) (t .0)), t .1)
+        (rw (← known seed vs p (u .0) (u .1)) (given (oneProfile p) (t .0)), ap (λ k. k .enabled) (t .1))
     decides-read (NotFound n) t = absurd t
 
   decides-by : (r : TableReading) → tableOf table ≡ r → Decides seed table vs (foundIn name (tableOf table))

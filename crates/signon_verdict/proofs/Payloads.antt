@@ -3,10 +3,9 @@ use mathlib.Core.Path.{_≡_, refl, sym, ap, subst, _∙_}
 use mathlib.Core.List.{List}
 use Prim.Native.Nat.{ℕ, _*_, _≤_}
 use native.Mathlib.Omega.{arith}
-use lib.ListN.{length, take, replicate}
-use Rattle.env.specs.Variable.{Variable}
+use lib.ListN.{take, replicate}
 use Rattle.env.specs.Read.{Reading, says, notRead, readingOf}
-use Rattle.env.specs.Numbers.{recordWidth, packed, held}
+use Rattle.env.specs.Numbers.{recordWidth, held}
 use Rattle.env.proofs.Short.{Fitting, reading-fitting}
 use Rattle.env.proofs.Sound.{Reads, reads}
 use Rattle.env_delivery.specs.declared.Answer.{Answer}

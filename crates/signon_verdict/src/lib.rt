@@ -1,6 +1,5 @@
 // The sign-on verdict: of this session's server seed, the profile table and the payload of NEW-ENVIRON that the client sent. What is right is said in the
 // crate `signon`. One call reads the payload into 1,024 bytes and 320 numbers on the stack and takes one pass over the table.
-ghost use mathlib.Core.Bool.{_&&_};
 ghost use mathlib.Core.Path.{_≡_};
 ghost use mathlib.Core.List.{List};
 ghost use Prim.Native.Nat.{ℕ};
@@ -8,14 +7,12 @@ ghost use lib.ListN.{drop};
 ghost use Rattle.env.specs.Variable.{lookup};
 ghost use Rattle.env.specs.Numbers.{held};
 ghost use Rattle.env.specs.Read.{says, notRead};
-ghost use Rattle.profile.specs.Profile.{version1, desAllowed, desToken};
+ghost use Rattle.profile.specs.Profile.{version1, enabled};
 ghost use Rattle.profile.specs.Table.{profileAt, tableOf};
-ghost use Rattle.profile_table.specs.Answer.{entry};
-ghost use Rattle.password_check.specs.Gives.{givesDes};
-ghost use Rattle.signon.specs.Attempt.{isPresent, isClear};
+ghost use Rattle.signon.specs.Attempt.{isPresent};
 ghost use Rattle.signon.specs.Verdict.{answerBy, answerOf};
 ghost use Rattle.signon_verdict.specs.near.Decisions.{userOf, seedOf, offeredOf, seedGiven, offerGiven, isPanel};
-ghost use Rattle.signon_verdict.specs.near.Decisions.{isProved, unknownVerdict, judged, knownVerdict};
+ghost use Rattle.signon_verdict.specs.near.Decisions.{unknownVerdict, judged, knownVerdict};
 use env::LIST_LIMIT;
 use env::PAYLOAD_LIMIT;
 use env::RECORD_WIDTH;
@@ -81,65 +78,9 @@ fn is_panel(bytes: &[u8], numbers: &[usize]) -> bool
     !offer_given(bytes, numbers)
 }
 
-// Whether a seed is empty or eight zeros.
-fn is_clear(seed: &[u8]) -> bool
-    ensures { λ r. ⌜ r ≡ isClear (now (seed .entry)) ⌝ }
-{
-    if seed.len() == 0 {
-        return true;
-    }
-    octets::same(seed, &[0u8; 8])
-}
-
-// Whether what is offered is the substitute by DES, and DES is allowed.
-fn des_proved(
-    server_seed: &[u8],
-    table: &[u8],
-    e: Entry,
-    user: &[u8],
-    seed: &[u8],
-    offered: &[u8],
-) -> bool
-    ensures { λ r. ⌜
-        r ≡ (e .«des_allowed» && givesDes (desToken (profileAt version1 (drop (e .at) (now (table .entry)))))
-        (now (user .entry)) (now («server_seed» .entry)) (now (seed .entry)) (now (offered .entry)))
-        ⌝ }
-{
-    if !e.des_allowed {
-        return false;
-    }
-    let token = profile_tokens::des_token(table, e.at);
-    password_check::gives_des(token, user, server_seed, seed, offered)
-}
-
-// Whether what is offered is what the profile at an entry gives.
-fn is_proved(
-    server_seed: &[u8],
-    table: &[u8],
-    e: Entry,
-    user: &[u8],
-    seed: &[u8],
-    offered: &[u8],
-) -> bool
-    requires { ⌜ e .«des_allowed» ≡ desAllowed (profileAt version1 (drop (e .at) (now table))) ⌝ }
-    ensures { λ r. ⌜
-        r ≡ isProved (now («server_seed» .entry)) (now (user .entry)) (now (seed .entry)) (now (offered .entry))
-        (profileAt version1 (drop (e .at) (now (table .entry))))
-        ⌝ }
-{
-    let token = profile_tokens::sha_token(table, e.at);
-    if is_clear(seed) {
-        return password_check::gives_clear(user, offered, token);
-    }
-    if des_proved(server_seed, table, e, user, seed, offered) {
-        return true;
-    }
-    password_check::gives_sha(token, user, server_seed, seed, offered)
-}
-
 // The verdict where a profile was found and PANEL is not asked for.
 fn judge(server_seed: &[u8], table: &[u8], e: Entry, bytes: &[u8], numbers: &[usize]) -> Verdict
-    requires { ⌜ e ≡ entry (e .at) (profileAt version1 (drop (e .at) (now table))) ⌝ }
+    requires { ⌜ e .enabled ≡ enabled (profileAt version1 (drop (e .at) (now table))) ⌝ }
     ensures { λ r. ⌜
         r ≡ judged (now («server_seed» .entry)) (held (now (bytes .entry)) (now (numbers .entry))) (profileAt version1 (drop (e .at) (now (table .entry))))
         ⌝ }
@@ -153,14 +94,10 @@ fn judge(server_seed: &[u8], table: &[u8], e: Entry, bytes: &[u8], numbers: &[us
     if !offer_given(bytes, numbers) {
         return Verdict::Failed;
     }
-    if is_proved(
-        server_seed,
-        table,
-        e,
-        user_of(bytes, numbers),
-        seed_of(bytes, numbers),
-        offered_of(bytes, numbers),
-    ) {
+    let user = user_of(bytes, numbers);
+    let seed = seed_of(bytes, numbers);
+    let offered = offered_of(bytes, numbers);
+    if signon_offer::is_proved(server_seed, table, e.at, user, seed, offered) {
         return Verdict::Grant;
     }
     Verdict::Failed
@@ -184,7 +121,7 @@ fn with_profile(
     bytes: &[u8],
     numbers: &[usize],
 ) -> Verdict
-    requires { ⌜ e ≡ entry (e .at) (profileAt version1 (drop (e .at) (now table))) ⌝ }
+    requires { ⌜ e .enabled ≡ enabled (profileAt version1 (drop (e .at) (now table))) ⌝ }
     ensures { λ r. ⌜
         r ≡ knownVerdict (now («server_seed» .entry)) (held (now (bytes .entry)) (now (numbers .entry))) (profileAt version1 (drop (e .at) (now (table .entry))))
         ⌝ }

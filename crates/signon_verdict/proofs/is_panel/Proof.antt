@@ -1,6 +1,6 @@
 -- `signon_verdict::is_panel` meets its contract. Assumes nothing.
-use mathlib.Core.Path.{_≡_, sym, ap, _∙_}
-use mathlib.Core.Bool.{true, false, not}
+use mathlib.Core.Path.{sym, ap, _∙_}
+use mathlib.Core.Bool.{not}
 use borrow.Author.Needs.{needs}
 use Rattle.signon_verdict.proofs.is_panel.Statement.{statement}
 use Rattle.signon_verdict.proofs.is_panel.Tie as tie

@@ -1,10 +1,11 @@
 -- `signon_verdict::judge` meets its contract. Assumes nothing.
-use mathlib.Core.Path.{_≡_, refl, sym, ap, _∙_}
-use mathlib.Core.Bool.{Bool, true, false}
+use mathlib.Core.Path.{_≡_, refl, sym, _∙_}
+use mathlib.Core.Bool.{true, false}
 use borrow.Author.Tests.{not-true, not-false}
 use Rattle.env.specs.Numbers.{held}
 use Rattle.profile_table.specs.Theorems.{standing}
-use Rattle.signon_verdict.specs.near.Decisions.{userOf, seedOf, offeredOf, isProved}
+use Rattle.signon.specs.Attempt.{isProved}
+use Rattle.signon_verdict.specs.near.Decisions.{userOf, seedOf, offeredOf}
 use Rattle.signon_verdict.proofs.Deciding.{judged-by}
 use borrow.Author.Needs.{needs}
 use Rattle.signon_verdict.proofs.judge.Statement.{statement}
@@ -16,7 +17,7 @@ returns c =
     let a = s .args in
     let p = standing (a .table .now) (a .e .at) in
     let vs = held (a .bytes .now) (a .numbers .now) in
-    let on = sym (ap (λ d. d .enabled) (s .pre)) in
+    let on = sym (s .pre) in
     judged-by (a .server-seed .now) vs p false _ _ _ (on ∙ not-true _ (c .if1 .taken)) refl refl refl
 
 seed-given-requires : tie.Need-seed-given-requires
@@ -28,7 +29,7 @@ returns-2 c =
     let a = s .args in
     let p = standing (a .table .now) (a .e .at) in
     let vs = held (a .bytes .now) (a .numbers .now) in
-    let on = sym (ap (λ d. d .enabled) (s .pre)) in
+    let on = sym (s .pre) in
     judged-by (a .server-seed .now) vs p true false _ _ (on ∙ not-false _ (c .before .before .if1 .left)) (sym (c .before .seed-given .ensures) ∙ not-true _ (c .if2 .taken)) refl refl
 
 offer-given-requires : tie.Need-offer-given-requires
@@ -40,7 +41,7 @@ returns-3 c =
     let a = s .args in
     let p = standing (a .table .now) (a .e .at) in
     let vs = held (a .bytes .now) (a .numbers .now) in
-    let on = sym (ap (λ d. d .enabled) (s .pre)) in
+    let on = sym (s .pre) in
     judged-by (a .server-seed .now) vs p true true false _ (on ∙ not-false _ (c .before .before .before .before .if1 .left)) (sym (c .before .before .before .seed-given .ensures) ∙ not-false _ (c .before .before .if2 .left))
     (sym (c .before .offer-given .ensures) ∙ not-true _ (c .if3 .taken)) refl
 
@@ -54,7 +55,7 @@ offered-of-requires : tie.Need-offered-of-requires
 offered-of-requires c κs = search needs
 
 is-proved-requires : tie.Need-is-proved-requires
-is-proved-requires c κs = ap (λ d. d .«des_allowed») (c .before .before .before .before .before .before .before .before .before .before .before .before .before .pre)
+is-proved-requires c κs = search needs
 
 returns-4 : tie.Need-returns-4
 returns-4 c =
@@ -62,7 +63,7 @@ returns-4 c =
     let a = s .args in
     let p = standing (a .table .now) (a .e .at) in
     let vs = held (a .bytes .now) (a .numbers .now) in
-    let on = sym (ap (λ d. d .enabled) (s .pre)) in
+    let on = sym (s .pre) in
     let o = c .before in
     let proved : o .is-proved .result ≡ isProved (a .server-seed .now) (userOf vs) (seedOf vs) (offeredOf vs) p =
     rw (o .before .before .before .user-of .ensures, o .before .before .seed-of .ensures, o .before .offered-of .ensures) at (o .is-proved .ensures) in
@@ -75,7 +76,7 @@ returns-5 c =
     let a = s .args in
     let p = standing (a .table .now) (a .e .at) in
     let vs = held (a .bytes .now) (a .numbers .now) in
-    let on = sym (ap (λ d. d .enabled) (s .pre)) in
+    let on = sym (s .pre) in
     let o = c .before in
     let proved : o .is-proved .result ≡ isProved (a .server-seed .now) (userOf vs) (seedOf vs) (offeredOf vs) p =
     rw (o .before .before .before .user-of .ensures, o .before .before .seed-of .ensures, o .before .offered-of .ensures) at (o .is-proved .ensures) in

@@ -1,16 +1,14 @@
 -- `signon_verdict::verdict` meets its contract: 35, then the table, then the payload. Assumes nothing.
-use mathlib.Core.Path.{_≡_, sym, ap, _∙_}
-use mathlib.Core.List.{List}
-use Prim.Native.Nat.{ℕ, _*_, _≤_}
+use mathlib.Core.Path.{_≡_, _∙_}
+use Prim.Native.Nat.{_*_, _≤_}
 use native.Mathlib.Omega.{arith}
 use native.Mathlib.Nat.{sub-zero}
 use borrow.Author.Tests.{eq-eqb, ne-eqb}
-use lib.ListN.{length, take}
-use Rattle.env.specs.Read.{says, notRead, readingOf}
-use Rattle.env.specs.Numbers.{held}
+use lib.ListN.{length}
+use Rattle.env.specs.Read.{notRead, readingOf}
 use Rattle.profile.specs.Table.{tableOf}
 use Rattle.password_check.specs.Gives.{seedLength}
-use Rattle.signon.specs.Verdict.{answerBy, answerOf}
+use Rattle.signon.specs.Verdict.{answerOf}
 use Rattle.signon_verdict.proofs.Deciding.{any-first}
 use Rattle.signon_verdict.proofs.Payloads.{within, said}
 use borrow.Author.Needs.{needs}

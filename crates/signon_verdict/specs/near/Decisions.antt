@@ -1,13 +1,13 @@
 -- A verdict in the code's order: first whether a profile was found, then the conditions that are left.
 use Prim.Native.Nat.{ℕ}
-use mathlib.Core.Bool.{Bool, not, _&&_, _||_}
+use mathlib.Core.Bool.{Bool, not, _&&_}
 use mathlib.Core.List.{List, []}
 use Rattle.octets.specs.Choice.{if_then_else_}
 use Rattle.env.specs.Variable.{Variable, VAR, USERVAR, lookup, valueOr}
 use Rattle.profile.specs.Profile.{Profile, enabled}
 use Rattle.signon.specs.declared.Verdict.{Verdict}
 use Rattle.signon.specs.declared.Verdict.the-variants.{Panel, NotKnown, Disabled, Failed, Grant}
-use Rattle.signon.specs.Attempt.{USER, IBMRSEED, IBMSUBSPW, isPresent, clearPassword, desSubstitute, shaSubstitute}
+use Rattle.signon.specs.Attempt.{USER, IBMRSEED, IBMSUBSPW, isPresent, isProved}
 
 -- the values of the three variables, empty where they are absent
 abbrev pub userOf : List Variable → List ℕ
@@ -32,11 +32,6 @@ isPanel vs = not (seedGiven vs) && not (offerGiven vs)
 -- no profile was found
 unfoldable pub unknownVerdict : List Variable → Verdict
 unknownVerdict vs = if isPanel vs then Panel else NotKnown
-
--- one of the two rules holds
-unfoldable pub isProved : List ℕ → List ℕ → List ℕ → List ℕ → Profile → Bool
-isProved serverSeed user seed offered p =
-    clearPassword user seed offered p || (desSubstitute serverSeed user seed offered p || shaSubstitute serverSeed user seed offered p)
 
 -- a profile was found, and PANEL is not asked for
 unfoldable pub judged : List ℕ → List Variable → Profile → Verdict

@@ -1,10 +1,10 @@
--- `signon_verdict::is_clear` meets its contract. Assumes nothing.
+-- `signon_offer::is_clear` meets its contract. Assumes nothing.
 use mathlib.Core.Path.{sym, _∙_}
 use native.Mathlib.Omega.{arith}
-use Rattle.signon_verdict.proofs.Deciding.{empty-clear, zeros-clear}
+use Rattle.signon_offer.proofs.Rules.{empty-clear, zeros-clear}
 use borrow.Author.Needs.{needs}
-use Rattle.signon_verdict.proofs.is_clear.Statement.{statement}
-use Rattle.signon_verdict.proofs.is_clear.Tie as tie
+use Rattle.signon_offer.proofs.is_clear.Statement.{statement}
+use Rattle.signon_offer.proofs.is_clear.Tie as tie
 
 returns : tie.Need-returns
 returns c = sym (empty-clear (c .before .before .args .seed .now) (c .if1 .taken))
