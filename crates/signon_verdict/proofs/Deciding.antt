@@ -35,7 +35,7 @@ use Rattle.signon.specs.declared.Answer.the-variants.{Given, Refused}
 use Rattle.signon.specs.Attempt.{USER, IBMRSEED, IBMSUBSPW, Attempt, attempt, isPresent, clearPassword, desSubstitute, shaSubstitute, isProved}
 use Rattle.signon.specs.Verdict.{firstOf, grantConditions, profileConditions, conditions, verdictOf, answerBy}
 use Rattle.signon.proofs.Sentences.{formed-in}
-use Rattle.signon_verdict.specs.near.Decisions.{userOf, seedOf, offeredOf, seedGiven, offerGiven, isPanel, unknownVerdict, judged, knownVerdict}
+use Rattle.signon_verdict.specs.near.Decisions.{userOf, seedOf, offeredOf, isPanel, unknownVerdict, knownVerdict}
 
 -- whether a variable is there, by the place of its value
 pub there-by : (kind : ℕ) (name bytes numbers : List ℕ) (p q : ValuePlace) → p ≡ placeOf kind name bytes numbers → p ≡ q
@@ -75,7 +75,7 @@ unknown seed vs = ap (λ v. if isPanel vs then Panel else v) (not-known (not (is
 
 pub known : (seed : List ℕ) (vs : List Variable) (p : Profile) → isPresent (lookup VAR USER vs) ≡ true → isName profileLimit (userOf vs) ≡ true
     → verdictOf (attemptWith seed vs (oneProfile p)) ≡ knownVerdict seed vs p
-unfolding verdictOf conditions profileConditions grantConditions firstOf knownVerdict judged isProved
+unfolding verdictOf conditions profileConditions grantConditions firstOf knownVerdict isProved
 known seed vs p there good =
     let u = userOf vs in
     let s = seedOf vs in
@@ -140,13 +140,6 @@ refuses-by table number (tableRefused n) e = subst (Refuses table number) (sym (
 
 pub refuses : (table : List ℕ) (number : ℕ) (t u : TableCheck) → t ≡ checked (tableOf table) → t ≡ u → Refuses table number u
 refuses table number t u e told = subst (Refuses table number) (sym e ∙ told) (refuses-by table number (tableOf table) refl)
-
--- a verdict by the code's tests in their order
-pub judged-by : (s : List ℕ) (vs : List Variable) (p : Profile) (a b c d : Bool) → enabled p ≡ a → seedGiven vs ≡ b → offerGiven vs ≡ c
-    → isProved s (userOf vs) (seedOf vs) (offeredOf vs) p ≡ d
-    → (if not a then Disabled else if not b then Failed else if not c then Failed else if d then Grant else Failed) ≡ judged s vs p
-unfolding judged
-judged-by s vs p a b c d ea eb ec ed = rw (ea, eb, ec, ed)
 
 -- the first byte of a payload decides nothing
 pub any-first : (seed : List ℕ) (r : TableReading) (first : ℕ) (vs : List Variable) → answerBy seed r (says 0 vs) ≡ answerBy seed r (says first vs)

@@ -12,7 +12,7 @@ ghost use Rattle.profile.specs.Table.{profileAt, tableOf};
 ghost use Rattle.signon.specs.Attempt.{isPresent};
 ghost use Rattle.signon.specs.Verdict.{answerBy, answerOf};
 ghost use Rattle.signon_verdict.specs.near.Decisions.{userOf, seedOf, offeredOf, seedGiven, offerGiven, isPanel};
-ghost use Rattle.signon_verdict.specs.near.Decisions.{unknownVerdict, judged, knownVerdict};
+ghost use Rattle.signon_verdict.specs.near.Decisions.{unknownVerdict, knownVerdict};
 use env::LIST_LIMIT;
 use env::PAYLOAD_LIMIT;
 use env::RECORD_WIDTH;
@@ -78,31 +78,6 @@ fn is_panel(bytes: &[u8], numbers: &[usize]) -> bool
     !offer_given(bytes, numbers)
 }
 
-// The verdict where a profile was found and PANEL is not asked for.
-fn judge(server_seed: &[u8], table: &[u8], e: Entry, bytes: &[u8], numbers: &[usize]) -> Verdict
-    requires { ⌜ e .enabled ≡ enabled (profileAt version1 (drop (e .at) (now table))) ⌝ }
-    ensures { λ r. ⌜
-        r ≡ judged (now («server_seed» .entry)) (held (now (bytes .entry)) (now (numbers .entry))) (profileAt version1 (drop (e .at) (now (table .entry))))
-        ⌝ }
-{
-    if !e.enabled {
-        return Verdict::Disabled;
-    }
-    if !seed_given(bytes, numbers) {
-        return Verdict::Failed;
-    }
-    if !offer_given(bytes, numbers) {
-        return Verdict::Failed;
-    }
-    let user = user_of(bytes, numbers);
-    let seed = seed_of(bytes, numbers);
-    let offered = offered_of(bytes, numbers);
-    if signon_offer::is_proved(server_seed, table, e.at, user, seed, offered) {
-        return Verdict::Grant;
-    }
-    Verdict::Failed
-}
-
 // The verdict where no profile was found.
 fn without_profile(bytes: &[u8], numbers: &[usize]) -> Verdict
     ensures { λ r. ⌜ r ≡ unknownVerdict (held (now (bytes .entry)) (now (numbers .entry))) ⌝ }
@@ -129,7 +104,22 @@ fn with_profile(
     if is_panel(bytes, numbers) {
         return Verdict::Panel;
     }
-    judge(server_seed, table, e, bytes, numbers)
+    if !e.enabled {
+        return Verdict::Disabled;
+    }
+    if !seed_given(bytes, numbers) {
+        return Verdict::Failed;
+    }
+    if !offer_given(bytes, numbers) {
+        return Verdict::Failed;
+    }
+    let user = user_of(bytes, numbers);
+    let seed = seed_of(bytes, numbers);
+    let offered = offered_of(bytes, numbers);
+    if signon_offer::is_proved(server_seed, table, e.at, user, seed, offered) {
+        return Verdict::Grant;
+    }
+    Verdict::Failed
 }
 
 // The answer to a payload that was read: its variables are those of the records.

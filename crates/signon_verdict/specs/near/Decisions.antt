@@ -33,14 +33,12 @@ isPanel vs = not (seedGiven vs) && not (offerGiven vs)
 unfoldable pub unknownVerdict : List Variable → Verdict
 unknownVerdict vs = if isPanel vs then Panel else NotKnown
 
--- a profile was found, and PANEL is not asked for
-unfoldable pub judged : List ℕ → List Variable → Profile → Verdict
-judged serverSeed vs p =
+-- a profile was found
+unfoldable pub knownVerdict : List ℕ → List Variable → Profile → Verdict
+knownVerdict serverSeed vs p =
+    if isPanel vs then Panel else
     if not (enabled p) then Disabled else
     if not (seedGiven vs) then Failed else
     if not (offerGiven vs) then Failed else
     if isProved serverSeed (userOf vs) (seedOf vs) (offeredOf vs) p then Grant else
     Failed
-
-unfoldable pub knownVerdict : List ℕ → List Variable → Profile → Verdict
-knownVerdict serverSeed vs p = if isPanel vs then Panel else judged serverSeed vs p
