@@ -1,21 +1,20 @@
-// The fifth part of a printer session: the start-up response record. What is said goes to standard output, of which no contract speaks. The answer is
-// whether there is room for both lines; where there is none, nothing is said.
+// The fourth part of a printer session: the start-up response record. What passes the line is said in `specs/Responded.antt`. What is said of it goes to standard
+// output, of which no contract speaks.
 ghost use mathlib.Core.Path.{_≡_};
-ghost use Rattle.show_event.specs.Sent.{fit};
+ghost use mathlib.Core.Bool.{false};
+ghost use Rattle.octets.specs.Lent.{outcome};
+ghost use Rattle.startup.specs.Response.{responseOf};
+ghost use Rattle.show_event.specs.Sent.{sentAll};
+ghost use Rattle.play_response.specs.Responded.{system, device, responded};
 use show_event::Sender;
 use signon::Verdict;
-use telnet::Kind;
 
-fn say(words: &[u8]) {
-    io::write_all(1, words);
-}
-
-// The response record, as a run and an end-of-record.
-fn respond(verdict: Verdict, down: &mut [u8], at: usize) -> usize {
+fn record_of(verdict: Verdict) -> [u8; 73]
+    ensures { λ r. ⌜ r ≡ responseOf false verdict system device ⌝ }
+{
     let mut record = [0u8; 73];
     startup_record::response(false, verdict, b"TARGET", b"PCPRINTER", &mut record);
-    let end = show_event::send_event(Sender::Host, Kind::Data, &record, down, at);
-    show_event::send_event(Sender::Host, Kind::Command(239), b"", down, end)
+    record
 }
 
 // A digit or the I of a response code, which is EBCDIC.
@@ -26,39 +25,31 @@ fn ascii(b: u8) -> u8 {
     b & 0x3F
 }
 
+// The response code of a record.
 fn say_code(record: &[u8]) {
     let code = [
+        b':',
+        b' ',
         ascii(octets_part::byte_at(record, 16)),
         ascii(octets_part::byte_at(record, 17)),
         ascii(octets_part::byte_at(record, 18)),
         ascii(octets_part::byte_at(record, 19)),
     ];
-    say(b": ");
-    say(&code);
+    io::write_all(1, &code);
 }
 
 // The printer reads the record at a place.
-fn read_response(down: &[u8], at: usize) {
+fn hear(down: &[u8], at: usize) {
     let mut record = [0u8; 73];
     telnet_records::read_record(down, at, &mut record);
     say_code(&record);
 }
 
-fn go_on(verdict: Verdict, down_sent: &[u8], up_sent: &[u8]) {
-    let mut down = [0u8; 512];
-    octets::put(down_sent, &mut down, 0);
-    let end = respond(verdict, &mut down, down_sent.len());
-    read_response(&down, down_sent.len());
-    play_order::play(octets_part::part(&down, 0, end), up_sent);
-}
-
-// The session goes on behind what both ends have sent.
-pub fn play(verdict: Verdict, down_sent: &[u8], up_sent: &[u8]) -> bool
-    ensures { λ r. ⌜ r ≡ fit (now («down_sent» .entry)) (now («up_sent» .entry)) 512 ⌝ }
+// The host responds to the verdict, and the printer reads it. The answer is the place behind it.
+pub fn respond(verdict: Verdict, down: &mut [u8], at: usize) -> usize
+    ensures { λ r. ⌜ outcome r (now (down .exit)) ≡ sentAll (responded verdict) (now (down .entry)) at ⌝ }
 {
-    let room = show_event::fit(down_sent, up_sent, 512);
-    if room {
-        go_on(verdict, down_sent, up_sent);
-    }
-    room
+    let end = show_event::send_record(Sender::Host, &record_of(verdict), down, at);
+    hear(octets_part::part(down, 0, end), at);
+    end
 }

@@ -1,7 +1,7 @@
-// The fourth part of a printer session: the verdict. What is said goes to standard output, of which no contract speaks. The answer is what the next part
-// answers, whether there is room for both lines.
+// The third part of a printer session: the host's verdict on what the printer told. What is right is said in `specs/Judged.antt` and in the crate `signon`. What
+// is said of it goes to standard output, of which no contract speaks.
 ghost use mathlib.Core.Path.{_≡_};
-ghost use Rattle.show_event.specs.Sent.{fit};
+ghost use Rattle.play_signon.specs.Judged.{verdictBy, lengthOf, judged};
 use signon::Answer;
 use signon::Verdict;
 
@@ -20,25 +20,39 @@ fn say_verdict(verdict: Verdict) {
 }
 
 // A payload that is refused fails.
-fn judge(table: &[u8], payload: &[u8]) -> Verdict {
-    match signon_verdict::verdict(b"\x7D\x4C\x23\x19\xF2\x80\x04\xB2", table, payload) {
+fn verdict_by(answer: Answer) -> Verdict
+    ensures { λ r. ⌜ r ≡ verdictBy answer ⌝ }
+{
+    match answer {
         Answer::Given(verdict) => verdict,
         Answer::Refused(_) => Verdict::Failed,
     }
 }
 
-// The host's verdict on the payload at a place.
-fn verdict(table: &[u8], up: &[u8], at: usize) -> Verdict {
-    let mut payload = [0u8; 69];
-    telnet_reader::read(up, at, &mut payload);
-    judge(table, &payload)
+// How many bytes were read.
+fn length_of(answer: telnet_reader::Answer) -> usize
+    ensures { λ r. ⌜ r ≡ lengthOf answer ⌝ }
+{
+    match answer {
+        telnet_reader::Answer::Found {
+            kind: _,
+            length,
+            next: _,
+        } => length,
+        telnet_reader::Answer::End => 0,
+        telnet_reader::Answer::Refused(_) => 0,
+    }
 }
 
-// The session goes on behind what both ends have sent; the environment payload stands at a place of the printer's line.
-pub fn play(table: &[u8], down_sent: &[u8], up_sent: &[u8], at: usize) -> bool
-    ensures { λ r. ⌜ r ≡ fit (now («down_sent» .entry)) (now («up_sent» .entry)) 512 ⌝ }
+// The host's verdict on the payload at a place of the printer's line, under the seed that the host gave.
+pub fn judge(server_seed: &[u8], table: &[u8], up: &[u8], at: usize) -> Verdict
+    ensures { λ r. ⌜ r ≡ judged (now («server_seed» .entry)) (now (table .entry)) (now (up .entry)) at ⌝ }
 {
-    let verdict = verdict(table, up_sent, at);
+    let mut payload = [0u8; 1024];
+    let answer = telnet_reader::read(up, at, &mut payload);
+    let n = length_of(answer);
+    let given = signon_verdict::verdict(server_seed, table, octets_part::part(&payload, 0, n));
+    let verdict = verdict_by(given);
     say_verdict(verdict);
-    play_response::play(verdict, down_sent, up_sent)
+    verdict
 }

@@ -2,7 +2,7 @@
 // a lent buffer. Each is total, and where something does not fit nothing is written.
 ghost use mathlib.Core.Path.{_≡_};
 ghost use Prim.Native.Nat.{_+_, _≤_, _<_};
-ghost use lib.ListN.{length, drop};
+ghost use lib.ListN.{length};
 ghost use Rattle.octets.specs.Decimal.{decimal};
 ghost use Rattle.octets.specs.Lent.{outcome, overwrite};
 ghost use Rattle.show.specs.Hex.{digitValue, byteOf, hexDigit, hexPair, hexText, spacedText};

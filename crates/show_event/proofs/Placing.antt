@@ -1,6 +1,6 @@
 -- An event written from a place of a line on. Assumes nothing.
 use mathlib.Core.Path.{_≡_, refl, sym, ap, subst, _∙_}
-use mathlib.Core.List.{List, _++_, append-nil}
+use mathlib.Core.List.{List, [], _∷_, _++_, append-nil}
 use Prim.Native.Nat.{ℕ, _+_, _-_, _≤_, _<_}
 use native.Mathlib.Omega.{arith}
 use lib.Dec.{ltb}
@@ -16,7 +16,7 @@ use Rattle.telnet.specs.Write.{written, writable}
 use Rattle.telnet_writer.specs.declared.Written.{Written}
 use Rattle.telnet_writer.specs.declared.Written.the-variants.{Wrote, Refused}
 use Rattle.telnet_writer.specs.Promise.{writeOf}
-use Rattle.show_event.specs.Sent.{placeBehind, behindPlace, sentAt}
+use Rattle.show_event.specs.Sent.{placeBehind, behindPlace, sentAt, sentAll}
 
 pub behind-the-end : (e : Event) (line : List ℕ) (at : ℕ) → length line < at → outcome at line ≡ sentAt e line at
 unfolding sentAt
@@ -56,3 +56,9 @@ pub wrote-within : (e : Event) (line part : List ℕ) (at : ℕ) (answer r : Wri
 wrote-within e line part at answer r w told =
     subst (λ (n : ℕ). writtenLength r ≤ n) (length-drop at line)
     (subst (Within (drop at line)) (sym (ap (λ a. outcome a part) (sym told) ∙ w ∙ ap (writeOf e) (part-to-end line at))) (write-within e (drop at line)))
+
+-- two events, by what the sending of each answers and leaves
+pub both-sent : (e f : Event) (line : List ℕ) (at : ℕ) {r r′ : ℕ} {l l′ : List ℕ} → outcome r l ≡ sentAt e line at → outcome r′ l′ ≡ sentAt f l r
+    → outcome r′ l′ ≡ sentAll (e ∷ f ∷ []) line at
+unfolding sentAll
+both-sent e f line at first second = second ∙ ap (λ (o : Outcome ℕ). sentAt f (o .lent) (o .answer)) first

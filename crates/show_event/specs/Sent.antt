@@ -1,12 +1,11 @@
 -- Events at places of a line: what is read there and what is written there, with the place behind it.
-use mathlib.Core.List.{List, _++_}
+use mathlib.Core.List.{List, [], _∷_, _++_}
 use Prim.Native.Nat.{ℕ, _+_}
-use mathlib.Core.Bool.{Bool, _&&_}
-use lib.Dec.{ltb, leb}
+use lib.Dec.{ltb}
 use lib.ListN.{length, take, drop}
 use Rattle.octets.specs.Choice.{if_then_else_}
 use Rattle.octets.specs.Lent.{Outcome, outcome}
-use Rattle.telnet.specs.Event.{Event}
+use Rattle.telnet.specs.Event.{Event, run, command, eor}
 use Rattle.telnet_reader.specs.declared.Answer.{Answer}
 use Rattle.telnet_reader.specs.declared.Answer.the-variants.{End, Found, Refused as NotRead}
 use Rattle.telnet_writer.specs.declared.Written.{Written}
@@ -32,6 +31,11 @@ behindPlace line at o = outcome (placeBehind at (o .answer)) (take at line ++ o 
 unfoldable pub sentAt : Event → List ℕ → ℕ → Outcome ℕ
 sentAt e line at = if ltb (length line) at then outcome at line else behindPlace line at (writeOf e (drop at line))
 
--- two lines fit into buffers of so many bytes each
-abbrev pub fit : List ℕ → List ℕ → ℕ → Bool
-fit down up room = leb (length down) room && leb (length up) room
+-- events one behind the other
+unfoldable pub sentAll : List Event → List ℕ → ℕ → Outcome ℕ
+sentAll [] line at = outcome at line
+sentAll (e ∷ es) line at = sentAll es (sentAt e line at .lent) (sentAt e line at .answer)
+
+-- a record on the line: its bytes, and its end
+abbrev pub recordEvents : List ℕ → List Event
+recordEvents bytes = run bytes ∷ command eor ∷ []

@@ -6,7 +6,7 @@ ghost use lib.ListN.{length};
 ghost use Rattle.octets.specs.Lent.{outcome};
 ghost use Rattle.telnet.specs.Event.{event};
 ghost use Rattle.telnet_reader.specs.Promise.{lookAt};
-ghost use Rattle.show_event.specs.Sent.{nextPlace, sentAt, fit};
+ghost use Rattle.show_event.specs.Sent.{nextPlace, sentAt, sentAll, recordEvents};
 use telnet::Kind;
 use telnet_reader::Answer;
 use telnet_writer::Written;
@@ -120,6 +120,14 @@ pub fn send_event(sender: Sender, kind: Kind, payload: &[u8], line: &mut [u8], a
     end
 }
 
+// Sends a record, as a run and an end-of-record, and says both.
+pub fn send_record(sender: Sender, bytes: &[u8], line: &mut [u8], at: usize) -> usize
+    ensures { λ r. ⌜ outcome r (now (line .exit)) ≡ sentAll (recordEvents (now (bytes .entry))) (now (line .entry)) at ⌝ }
+{
+    let run = send_event(sender, Kind::Data, bytes, line, at);
+    send_event(sender, Kind::Command(239), b"", line, run)
+}
+
 // Says the option commands of a line that has no other events; they have three bytes each. The answer is how many.
 pub fn say_commands(sender: Sender, line: &[u8]) -> usize
     ensures { λ r. ⌜ r ≡ length (now (line .entry)) / 3 ⌝ }
@@ -130,14 +138,4 @@ pub fn say_commands(sender: Sender, line: &[u8]) -> usize
         i += 1;
     }
     i
-}
-
-// Whether two lines fit into buffers of so many bytes each.
-pub fn fit(down: &[u8], up: &[u8], room: usize) -> bool
-    ensures { λ r. ⌜ r ≡ fit (now (down .entry)) (now (up .entry)) room ⌝ }
-{
-    if room < down.len() {
-        return false;
-    }
-    up.len() <= room
 }

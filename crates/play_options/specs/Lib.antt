@@ -1,0 +1,2 @@
+pub mod near
+pub mod Negotiated
