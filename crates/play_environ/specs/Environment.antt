@@ -6,13 +6,11 @@ use Rattle.telnet.specs.Event.{Event, subnegotiation}
 use Rattle.option_rules.specs.Table.{newEnviron}
 use Rattle.env.specs.Variable.{IS, VAR, USERVAR, Variable, variable}
 use Rattle.env.specs.Write.{payloadOf}
+use Rattle.play.specs.Seed.{serverSeed}
 
 -- SEND (RFC 1572, section 2)
 abbrev pub SEND : ℕ
 SEND = 1
-
-abbrev pub serverSeed : List ℕ
-serverSeed = 0x7D ∷ 0x4C ∷ 0x23 ∷ 0x19 ∷ 0xF2 ∷ 0x80 ∷ 0x04 ∷ 0xB2 ∷ []
 
 -- "IAC SB NEW-ENVIRON SEND USERVAR IBMRSEED xxxxxxxx VAR USERVAR IAC SE" (RFC 4777, section 12): the server's seed, and a request for all variables of both kinds
 abbrev pub asked : Event

@@ -13,6 +13,7 @@ use Rattle.signon.specs.declared.Answer.the-variants.{Given, Refused}
 use Rattle.signon.specs.declared.Verdict.{Verdict}
 use Rattle.signon.specs.declared.Verdict.the-variants.{Failed}
 use Rattle.signon.specs.Verdict.{answerOf}
+use Rattle.play.specs.Seed.{serverSeed}
 
 -- a refusal of the payload, or of the table, is answered as 0004
 abbrev pub verdictBy : Answer → Verdict
@@ -28,6 +29,6 @@ lengthOf (NotRead number) = 0
 abbrev pub bytesRead : Outcome Read → List ℕ
 bytesRead o = part (o .lent) 0 (lengthOf (o .answer))
 
--- under a server seed and a table, the verdict on the payload at a place
-unfoldable pub judged : List ℕ → List ℕ → List ℕ → ℕ → Verdict
-judged seed table up at = verdictBy (answerOf seed table (bytesRead (readAt up at (replicate payloadLimit 0))))
+-- under a table and the server's seed, the verdict on the payload at a place
+unfoldable pub judged : List ℕ → List ℕ → ℕ → Verdict
+judged table up at = verdictBy (answerOf serverSeed table (bytesRead (readAt up at (replicate payloadLimit 0))))

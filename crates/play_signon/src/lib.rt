@@ -1,6 +1,8 @@
 // The third part of a printer session: the host's verdict on what the printer told. What is right is said in `specs/Judged.antt` and in the crate `signon`. What
 // is said of it goes to standard output, of which no contract speaks.
 ghost use mathlib.Core.Path.{_≡_};
+ghost use Rattle.signon.specs.Verdict.{answerOf};
+ghost use Rattle.play.specs.Seed.{serverSeed};
 ghost use Rattle.play_signon.specs.Judged.{verdictBy, lengthOf, judged};
 use signon::Answer;
 use signon::Verdict;
@@ -44,14 +46,21 @@ fn length_of(answer: telnet_reader::Answer) -> usize
     }
 }
 
-// The host's verdict on the payload at a place of the printer's line, under the seed that the host gave.
-pub fn judge(server_seed: &[u8], table: &[u8], up: &[u8], at: usize) -> Verdict
-    ensures { λ r. ⌜ r ≡ judged (now («server_seed» .entry)) (now (table .entry)) (now (up .entry)) at ⌝ }
+// The host's verdict on a payload, under the seed that the host gave.
+fn answer_to(table: &[u8], payload: &[u8]) -> Answer
+    ensures { λ r. ⌜ r ≡ answerOf serverSeed (now (table .entry)) (now (payload .entry)) ⌝ }
+{
+    signon_verdict::verdict(b"\x7D\x4C\x23\x19\xF2\x80\x04\xB2", table, payload)
+}
+
+// The host's verdict on the payload at a place of the printer's line.
+pub fn judge(table: &[u8], up: &[u8], at: usize) -> Verdict
+    ensures { λ r. ⌜ r ≡ judged (now (table .entry)) (now (up .entry)) at ⌝ }
 {
     let mut payload = [0u8; 1024];
     let answer = telnet_reader::read(up, at, &mut payload);
     let n = length_of(answer);
-    let given = signon_verdict::verdict(server_seed, table, octets_part::part(&payload, 0, n));
+    let given = answer_to(table, octets_part::part(&payload, 0, n));
     let verdict = verdict_by(given);
     say_verdict(verdict);
     verdict

@@ -13,17 +13,13 @@ fn main() {
     let mut down = [0u8; 512];
     let mut up = [0u8; 512];
     io::write_all(1, b"A printer session");
-    if play_options::negotiate(&mut down, &mut up) {
-        let asked = play_environ::ask(&mut down, 18);
-        let told = play_environ::tell(&mut up, 18);
-        let verdict = play_signon::judge(
-            b"\x7D\x4C\x23\x19\xF2\x80\x04\xB2",
-            octets_part::part(&table, 0, n),
-            &up,
-            18,
-        );
-        let responded = play_response::respond(verdict, &mut down, asked);
-        play_order::play(&mut down, responded, &mut up, told);
+    if !play_options::negotiate(&mut down, &mut up) {
+        return;
     }
+    let asked = play_environ::ask(&mut down, 18);
+    let told = play_environ::tell(&mut up, 18);
+    let verdict = play_signon::judge(octets_part::part(&table, 0, n), &up, 18);
+    let responded = play_response::respond(verdict, &mut down, asked);
+    play_order::play(&mut down, responded, &mut up, told);
     io::write_all(1, b"\n");
 }

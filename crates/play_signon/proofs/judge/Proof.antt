@@ -7,6 +7,7 @@ use Rattle.octets.specs.Part.{part}
 use Rattle.telnet_reader.specs.declared.Answer.{Answer}
 use Rattle.signon.specs.declared.Verdict.{Verdict}
 use Rattle.signon.specs.Verdict.{answerOf}
+use Rattle.play.specs.Seed.{serverSeed}
 use Rattle.play_signon.specs.Judged.{verdictBy, bytesRead, judged}
 use borrow.Author.Needs.{needs}
 use Rattle.play_signon.proofs.judge.Statement.{statement}
@@ -27,8 +28,8 @@ slice-aggregate-part c = search needs
 part-requires : tie.Need-part-requires
 part-requires c κs = search needs
 
-verdict-requires : tie.Need-verdict-requires
-verdict-requires c κs = search needs
+answer-to-requires : tie.Need-answer-to-requires
+answer-to-requires c κs = search needs
 
 verdict-by-requires : tie.Need-verdict-by-requires
 verdict-by-requires c κs = search needs
@@ -39,10 +40,10 @@ say-verdict-requires c κs = search needs
 returns : tie.Need-returns
 unfolding judged
 returns c =
-    let a = c .before .before .before .before .before .before .before .before .before .before .before .before .args in
-    let verdict : List ℕ → Verdict = λ payload. verdictBy (answerOf (a .server-seed .now) (a .table .now) payload) in
+    let a = c .before .before .before .before .before .before .before .before .before .before .before .args in
+    let verdict : List ℕ → Verdict = λ payload. verdictBy (answerOf serverSeed (a .table .now) payload) in
     let payload = c .before .before .before .part .ensures ∙ ap (part _ 0) (c .before .before .before .before .before .length-of .ensures) in
-    c .before .verdict-by .ensures ∙ ap verdictBy (c .before .before .verdict .ensures) ∙ ap verdict payload
+    c .before .verdict-by .ensures ∙ ap verdictBy (c .before .before .answer-to .ensures) ∙ ap verdict payload
     ∙ ap (λ (o : Outcome Answer). verdict (bytesRead o)) (c .before .before .before .before .before .before .before .read .ensures)
 
 pub judge-spec : {M : Type 1} → statement M
@@ -54,7 +55,7 @@ judge-spec =
     length-of-requires
     slice-aggregate-part
     part-requires
-    verdict-requires
+    answer-to-requires
     verdict-by-requires
     say-verdict-requires
     returns)

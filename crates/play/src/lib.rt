@@ -1,0 +1,1 @@
+// Definitions that the steps of a played session share.
