@@ -27,7 +27,7 @@ answers =
 abbrev pub exchanged : Commands
 exchanged = record { down = writtenAll requests; up = writtenAll answers; rests = true }
 
--- the commands stand at the front of both lines, where both have room for them
+-- six commands of three bytes each stand at the front of both lines, where both have room for them
 abbrev pub fit : List ℕ → List ℕ → Bool
 fit down up = leb 18 (length down) && leb 18 (length up)
 
