@@ -64,7 +64,20 @@ static void say_event(const struct end *e, size_t at)
 		printf("%s", option_name(event.option));
 }
 
-/* Sends an event: behind what was sent, and to the socket. */
+/* Sends what was put on an end's line from where it stood up to a place. */
+static void send_up_to(struct end *e, size_t place)
+{
+	size_t at = e->sent_length, length = place - at;
+
+	if (!length)
+		return;
+	if (write(e->socket, e->sent + at, length) != (ssize_t)length)
+		die("socket", 0);
+	e->sent_length = place;
+	say_event(e, at);
+}
+
+/* Sends an event. */
 static void send_event(struct end *e, uint8_t what, uint8_t code, uint8_t option,
 		const void *payload, size_t length)
 {
@@ -73,10 +86,7 @@ static void send_event(struct end *e, uint8_t what, uint8_t code, uint8_t option
 
 	if (w.refusal)
 		die("write", w.refusal);
-	if (write(e->socket, e->sent + at, w.length) != (ssize_t)w.length)
-		die("socket", 0);
-	e->sent_length += w.length;
-	say_event(e, at);
+	send_up_to(e, at + w.length);
 }
 
 /* Takes what has come from the socket. */
@@ -89,14 +99,13 @@ static void hear(struct end *e)
 	e->heard_length += (size_t)n;
 }
 
-/* The sides after a call, and the command that it sends, if any. */
-static void step(struct end *e, tv_answered_t a)
+/* The sides after a call, and the command that it put on the line, if any. */
+static void step(struct end *e, tv_sent_t sent)
 {
-	if (a.number && a.number != TV_NOTE_OFF_ANSWERED_BY_ON)
-		die("option", a.number);
-	e->sides = a.sides;
-	if (a.writes)
-		send_event(e, TV_NEGOTIATION, a.code, a.option, NULL, 0);
+	if (sent.number && sent.number != TV_NOTE_OFF_ANSWERED_BY_ON)
+		die("option", sent.number);
+	e->sides = sent.sides;
+	send_up_to(e, sent.place);
 }
 
 /* Answers the option commands from an end's place on, up to another event. */
@@ -109,14 +118,14 @@ static void answer(struct end *e)
 			die("look", event.refusal);
 		if (event.what != TV_NEGOTIATION)
 			return;
+		step(e, tv_option_hear(e->sides, e->heard, e->heard_length, e->at, true, e->sent, ROOM, e->sent_length));
 		e->at = event.next;
-		step(e, tv_sides_receive(e->sides, event.code, event.option, true));
 	}
 }
 
 static void ask(struct end *e, bool ours, uint8_t option)
 {
-	step(e, tv_sides_request(e->sides, ours, option, true));
+	step(e, tv_option_request(e->sides, ours, option, true, e->sent, ROOM, e->sent_length));
 }
 
 static void negotiate(struct end *host, struct end *printer)
@@ -140,10 +149,19 @@ static void negotiate(struct end *host, struct end *printer)
 		die("options do not rest on", 0);
 }
 
-static const uint8_t server_seed[8] = {0x7D, 0x4C, 0x23, 0x19, 0xF2, 0x80, 0x04, 0xB2};
+/* A seed is random: this one has every byte that needs an ESC, and a 255. */
+static const uint8_t server_seed[TV_SEED_LENGTH] = {0x00, 0x4C, 0x01, 0x19, 0x02, 0xFF, 0x03, 0xB2};
 
-#define SERVER_SEED 0x7D4C2319F28004B2u
 #define CLIENT_SEED 0x08BEF662D851F4B1u
+
+static uint64_t number_of(const uint8_t *bytes)
+{
+	uint64_t n = 0;
+
+	for (int i = 0; i < 8; i++)
+		n = n << 8 | bytes[i];
+	return n;
+}
 
 static void put_number(uint8_t *out, uint64_t n)
 {
@@ -151,8 +169,47 @@ static void put_number(uint8_t *out, uint64_t n)
 		out[i] = (uint8_t)n;
 }
 
+/* The host asks for all variables, with its seed after IBMRSEED. */
+static void ask_environment(struct end *host)
+{
+	uint8_t send[12 + 2 * TV_SEED_LENGTH] = {TV_ENV_SEND, TV_ENV_USERVAR, 'I', 'B', 'M', 'R', 'S', 'E', 'E', 'D'};
+	size_t n = 10;
+
+	for (size_t i = 0; i < TV_SEED_LENGTH; i++) {
+		if (server_seed[i] <= TV_ENV_USERVAR)
+			send[n++] = TV_ENV_ESC;
+		send[n++] = server_seed[i];
+	}
+	send[n++] = TV_ENV_VAR;
+	send[n++] = TV_ENV_USERVAR;
+	send_event(host, TV_SUBNEGOTIATION, 0, TV_OPTION_NEW_ENVIRON, send, n);
+	printf(": SEND");
+}
+
+/* The printer takes the seed from what it is asked. */
+static uint64_t hear_seed(struct end *printer)
+{
+	uint8_t payload[TV_PAYLOAD_LIMIT], seed[TV_SEED_LENGTH];
+	tv_event_t event;
+	size_t at = 10;
+
+	hear(printer);
+	event = tv_read(printer->heard, printer->heard_length, printer->at, payload, sizeof payload);
+	if (event.refusal || event.what != TV_SUBNEGOTIATION || event.length < 10 || memcmp(payload + 2, "IBMRSEED", 8))
+		die("seed", event.refusal);
+	printer->at = event.next;
+	for (size_t i = 0; i < TV_SEED_LENGTH; i++) {
+		if (at < event.length && payload[at] == TV_ENV_ESC)
+			at++;
+		if (at >= event.length)
+			die("seed", 0);
+		seed[i] = payload[at++];
+	}
+	return number_of(seed);
+}
+
 /* The printer's variables, each a kind and the places of its name and value. */
-static void tell_environment(struct end *printer)
+static void tell_environment(struct end *printer, uint64_t seed)
 {
 	uint8_t bytes[] = "USER" "USER123" "IBMRSEED" "........" "IBMSUBSPW" "........" "DEVNAME" "PCPRINTER";
 	const size_t places[] = {
@@ -163,7 +220,7 @@ static void tell_environment(struct end *printer)
 	};
 	uint8_t payload[TV_PAYLOAD_LIMIT];
 	tv_block_t token = tv_des_token(bytes + 4, 7, (const uint8_t *)"ABCDEFG", 7);
-	tv_block_t substitute = tv_des_substitute(token.value, bytes + 4, 7, SERVER_SEED, CLIENT_SEED);
+	tv_block_t substitute = tv_des_substitute(token.value, bytes + 4, 7, seed, CLIENT_SEED);
 	tv_written_t w;
 
 	if (token.refusal || substitute.refusal)
@@ -186,18 +243,12 @@ static const char *verdict_name(uint8_t verdict)
 
 static uint8_t sign_on(struct end *host, struct end *printer, const uint8_t *table, size_t table_length)
 {
-	uint8_t send[20] = "\x01\x03IBMRSEED........\x00";
 	uint8_t payload[TV_PAYLOAD_LIMIT];
 	tv_event_t event;
 	tv_judged_t v;
 
-	memcpy(send + 10, server_seed, 8);
-	send[19] = 3;
-	send_event(host, TV_SUBNEGOTIATION, 0, TV_OPTION_NEW_ENVIRON, send, sizeof send);
-	printf(": SEND");
-	hear(printer);
-	printer->at = tv_look(printer->heard, printer->heard_length, printer->at).next;
-	tell_environment(printer);
+	ask_environment(host);
+	tell_environment(printer, hear_seed(printer));
 	hear(host);
 	event = tv_read(host->heard, host->heard_length, host->at, payload, sizeof payload);
 	if (event.refusal || event.what != TV_SUBNEGOTIATION)

@@ -1,6 +1,7 @@
 /*
- * Random and structured bytes through every call of the archive. After a refusal what was lent is as it was, after an answer nothing behind the
- * told length has changed, and calls that belong together agree. Every call must be answered, and be refused by each number that the header gives
+ * Random and structured bytes through every call of the archive. After a refusal what was lent is as it was, after an answer nothing after the
+ * told length has changed, and calls that belong together agree. Options, response records and the ledger are compared whole with a rendering of
+ * the specification in C. Every call must be answered, and be refused by each number that the header gives
  * it, at least once.
  */
 #include "fuzz.h"
@@ -235,50 +236,166 @@ static void try_list(void)
 
 /* Options. */
 
-static size_t differing(tv_sides_t a, tv_sides_t b)
-{
-	const uint8_t *x = (const uint8_t *)&a, *y = (const uint8_t *)&b;
-	size_t n = 0;
+/* The specification's table: a row for each state, a column for receive on accepted and declined, receive off, request on, request off. */
+#define SAME 0xFF
+enum { NOTHING, SEND_ON, SEND_OFF };
+static const struct cell {
+	uint8_t next, number, sends;
+} table_of_options[6][5] = {
+	{{1, 0, SEND_ON}, {0, 0, SEND_OFF}, {0, 0, NOTHING}, {4, 0, SEND_ON}, {SAME, 11, NOTHING}},
+	{{1, 0, NOTHING}, {1, 0, NOTHING}, {0, 0, SEND_OFF}, {SAME, 11, NOTHING}, {2, 0, SEND_OFF}},
+	{{0, 14, NOTHING}, {0, 14, NOTHING}, {0, 0, NOTHING}, {3, 0, NOTHING}, {SAME, 12, NOTHING}},
+	{{1, 14, NOTHING}, {1, 14, NOTHING}, {4, 0, SEND_ON}, {SAME, 13, NOTHING}, {2, 0, NOTHING}},
+	{{1, 0, NOTHING}, {1, 0, NOTHING}, {0, 0, NOTHING}, {SAME, 12, NOTHING}, {5, 0, NOTHING}},
+	{{2, 0, SEND_OFF}, {2, 0, SEND_OFF}, {0, 0, NOTHING}, {4, 0, NOTHING}, {SAME, 13, NOTHING}},
+};
+static const uint8_t carried[] = {0, 3, 24, 25, 39};
 
-	for (size_t i = 0; i < sizeof a; i++) {
-		CHECK(y[i] <= TV_SIDE_WANT_ON_THEN_OFF);
-		n += (x[i] <= TV_SIDE_WANT_ON_THEN_OFF ? x[i] : TV_SIDE_OFF) != y[i];
-	}
-	return n;
+/* What one call asks of one side: of an option command that is received, or of a request. */
+struct asked {
+	bool ours, receives, on, accept;
+	uint8_t option;
+};
+
+/* Numbers that name no state read as off. */
+static tv_sides_t as_read(tv_sides_t given)
+{
+	uint8_t *sides = (uint8_t *)&given;
+
+	for (size_t i = 0; i < sizeof given; i++)
+		sides[i] = sides[i] < 6 ? sides[i] : 0;
+	return given;
 }
 
-static tv_sides_t try_step(tv_sides_t sides)
+/* The answer by the table. */
+static tv_answered_t answer_by(tv_sides_t given, struct asked q)
 {
-	static const uint8_t carried[] = {0, 3, 24, 25, 39};
-	uint8_t option = one_in(8) ? (uint8_t)any() : carried[below(5)], code = (uint8_t)(one_in(20) ? any() : TV_WILL + below(4));
-	bool receives = one_in(2), noted;
-	tv_answered_t a = receives ? tv_sides_receive(sides, code, option, one_in(2)) : tv_sides_request(sides, one_in(2), option, one_in(2));
+	tv_answered_t a = {.sides = given};
+	uint8_t *sides = (uint8_t *)&a.sides;
+	const uint8_t *option = memchr(carried, q.option, sizeof carried);
+	struct cell cell = {SAME, q.receives ? 0 : 10, q.receives && q.on ? SEND_OFF : NOTHING};
+	size_t side = option ? 2 * (size_t)(option - carried) + !q.ours : 0;
 
-	noted = receives && a.number == TV_NOTE_OFF_ANSWERED_BY_ON;
-	CHECK(a.writes <= 1 && a.option == (a.writes ? option : 0) && (a.writes ? a.code >= TV_WILL && a.code <= TV_DONT : !a.code));
-	if (counted(receives ? SIDES_RECEIVE : SIDES_REQUEST, noted ? 0 : a.number)) {
-		CHECK(differing(sides, a.sides) <= 1);
-		return a.sides;
-	}
-	CHECK(!a.writes);
-	if (receives)
-		CHECK(!memcmp(&a.sides, &sides, sizeof sides));
+	if (option)
+		cell = table_of_options[sides[side] < 6 ? sides[side] : 0][q.receives ? q.on ? q.accept ? 0 : 1 : 2 : q.on ? 3 : 4];
+	a.number = cell.number;
+	if (a.number && a.number != TV_NOTE_OFF_ANSWERED_BY_ON)
+		return a;
+	a.sides = as_read(given);
+	if (option)
+		sides[side] = cell.next;
+	if (cell.sends == NOTHING)
+		return a;
+	a.writes = 1;
+	a.code = (uint8_t)((q.ours ? TV_WILL : TV_DO) + (cell.sends == SEND_OFF));
+	a.option = q.option;
+	return a;
+}
+
+static struct asked received(uint8_t code, uint8_t option, bool accept)
+{
+	return (struct asked){code == TV_DO || code == TV_DONT, true, code == TV_WILL || code == TV_DO, accept, option};
+}
+
+static bool is_option_command(uint8_t code)
+{
+	return code >= TV_WILL && code <= TV_DONT;
+}
+
+static bool refuses(uint8_t number)
+{
+	return number && number != TV_NOTE_OFF_ANSWERED_BY_ON;
+}
+
+static tv_answered_t try_step(tv_sides_t sides, struct asked q, uint8_t code)
+{
+	tv_answered_t a, expected = {.sides = sides, .number = 6};
+
+	if (q.receives)
+		a = tv_sides_receive(sides, code, q.option, q.accept);
 	else
-		CHECK(!differing(sides, a.sides));
+		a = tv_sides_request(sides, q.ours, q.option, q.on);
+	if (!q.receives || is_option_command(code))
+		expected = answer_by(sides, q);
+	CHECK(!memcmp(&a, &expected, sizeof a));
+	counted(q.receives ? SIDES_RECEIVE : SIDES_REQUEST, refuses(a.number) ? a.number : 0);
+	return a;
+}
+
+/* A step with its command at a place of a line: by the step alone, by the room, and by the place. */
+static void try_sent(enum call call, tv_sides_t given, tv_answered_t a, size_t room, size_t at, tv_sent_t sent)
+{
+	uint8_t number = at > room ? 5 : a.writes && room - at < 3 ? 4 : a.number;
+	bool put = !refuses(number) && a.writes;
+
+	given_as_were();
+	CHECK(sent.number == number && sent.place == at + (put ? 3 : 0));
+	CHECK(!memcmp(&sent.sides, refuses(number) ? &given : &a.sides, sizeof given));
+	only_between(&out_room, put ? at : 0, put ? at + 3 : 0);
+	if (put) {
+		const uint8_t *bytes = front(&out_room) + at;
+		CHECK(bytes[0] == TV_IAC && bytes[1] == a.code && bytes[2] == a.option);
+	}
+	counted(call, refuses(number) ? number : 0);
+}
+
+/* What stands at a place is heard: an option command is a receipt, any other event is nothing. */
+static tv_event_t try_hear(tv_sides_t sides, const uint8_t *line, size_t length, size_t from)
+{
+	size_t room = below(12), at = below(room + (one_in(4) ? 3 : 1));
+	bool accept = one_in(2);
+	tv_event_t e = look_at(line, length, from);
+	tv_answered_t a = {.sides = e.refusal ? sides : as_read(sides), .number = e.refusal};
+	struct slice s = give(0, line, length);
+	uint8_t *out = lend(&out_room, room);
+
+	if (!e.refusal && e.what == TV_NEGOTIATION)
+		a = answer_by(sides, received(e.code, e.option, accept));
+	try_sent(OPTION_HEAR, sides, a, room, at, tv_option_hear(sides, s.bytes, s.length, from, accept, out, room, at));
+	return e;
+}
+
+static void try_hear_all(tv_sides_t sides)
+{
+	uint8_t line[LONGEST];
+	size_t length = fill_stream(line, 2600), at = 0;
+	tv_event_t e;
+
+	do {
+		e = try_hear(sides, line, length, at);
+		at = e.next;
+	} while (!e.refusal && e.what != TV_END);
+	try_hear(sides, line, length, below(length + 3));
+}
+
+static tv_sides_t try_option(tv_sides_t sides)
+{
+	uint8_t code = (uint8_t)(one_in(20) ? any() : TV_WILL + below(4)), option = one_in(8) ? (uint8_t)any() : carried[below(5)];
+	struct asked q = one_in(2) ? received(code, option, one_in(2)) : (struct asked){one_in(2), false, one_in(2), false, option};
+	tv_answered_t a = try_step(sides, q, code);
+	size_t room = below(12), at = below(room + 3);
+	uint8_t *out = lend(&out_room, room);
+
+	if (q.receives)
+		try_sent(OPTION_RECEIVE, sides, a, room, at, tv_option_receive(sides, code, option, q.accept, out, room, at));
+	else
+		try_sent(OPTION_REQUEST, sides, a, room, at, tv_option_request(sides, q.ours, option, q.on, out, room, at));
 	return a.sides;
 }
 
 static void try_sides(void)
 {
+	static const tv_sides_t none;
 	tv_sides_t sides = tv_sides_fresh();
 
 	counted(SIDES_FRESH, 0);
-	CHECK(!differing((tv_sides_t){.binary = {0, 0}}, sides));
+	CHECK(!memcmp(&sides, &none, sizeof sides));
 	if (one_in(4))
 		for (size_t i = 0; i < sizeof sides; i++)
 			((uint8_t *)&sides)[i] = (uint8_t)below(9);
 	for (size_t i = below(12); i; i--)
-		sides = try_step(sides);
+		sides = try_option(sides);
+	try_hear_all(sides);
 }
 
 /* Environment strings. */
@@ -732,18 +849,72 @@ static void try_sign_on(const struct profiles *p, const uint8_t *server_seed)
 	CHECK(verdict == (unknown ? TV_VERDICT_NOT_KNOWN : !u->enabled ? TV_VERDICT_DISABLED : wrong || (way == 1 && !des) ? TV_VERDICT_FAILED : TV_VERDICT_GRANT));
 }
 
+static uint8_t ebcdic(uint8_t b)
+{
+	static const char others[] = "$#@_";
+	static const uint8_t codes[] = {0x5B, 0x7B, 0x7C, 0x6D};
+
+	b = raised(b);
+	if (b >= '0' && b <= '9')
+		return (uint8_t)(0xF0 + b - '0');
+	if (b >= 'A' && b <= 'I')
+		return (uint8_t)(0xC1 + b - 'A');
+	if (b >= 'J' && b <= 'R')
+		return (uint8_t)(0xD1 + b - 'J');
+	if (b >= 'S' && b <= 'Z')
+		return (uint8_t)(0xE2 + b - 'S');
+	return b && strchr(others, b) ? codes[strchr(others, b) - others] : 0;
+}
+
+static bool is_name(const uint8_t *name, size_t length, size_t limit)
+{
+	for (size_t i = 0; i < length; i++)
+		if (!ebcdic(name[i]))
+			return false;
+	return length && length <= limit;
+}
+
+static size_t put_ebcdic(uint8_t *out, const uint8_t *text, size_t length, size_t width)
+{
+	for (size_t i = 0; i < width; i++)
+		out[i] = i < length ? ebcdic(text[i]) : 0x40;
+	return width;
+}
+
+/* RFC 4777, figures 1 and 2. */
+static void response_by(uint8_t *record, bool fault, uint8_t verdict, const uint8_t *system, size_t system_length, const uint8_t *device,
+		size_t device_length)
+{
+	static const uint8_t fixed[] = {0x00, 0x49, 0x12, 0xA0, 0x90, 0x00, 0x05, 0x60, 0x06, 0x00, 0x20, 0xC0, 0x00, 0x3D, 0x00, 0x00};
+	static const char *const codes[] = {"0004", "I902", "0002", "0003", "0004", "I902"};
+	const char *code = fault ? "8902" : codes[verdict <= TV_VERDICT_GRANT ? verdict : 0];
+	size_t n = sizeof fixed;
+
+	memset(record, 0, TV_RESPONSE_LENGTH);
+	memcpy(record, fixed, sizeof fixed);
+	if (code[0] != 'I') {
+		record[10] = 0x82;
+		record[11] = 0x00;
+	}
+	n += put_ebcdic(record + n, (const uint8_t *)code, 4, 4);
+	n += put_ebcdic(record + n, system, system_length, TV_SYSTEM_NAME_LIMIT);
+	put_ebcdic(record + n, device, device_length, TV_NAME_LIMIT);
+}
+
 static void try_response(void)
 {
-	uint8_t system[16], device[16];
+	uint8_t system[16], device[16], expected[TV_RESPONSE_LENGTH], verdict = (uint8_t)(one_in(20) ? any() : below(8));
 	size_t system_length = fill_name(system, 8), device_length = fill_name(device, 10), room = room_near(TV_RESPONSE_LENGTH);
+	bool fault = one_in(4), good = is_name(system, system_length, TV_SYSTEM_NAME_LIMIT) && is_name(device, device_length, TV_NAME_LIMIT);
 	struct slice s = give(0, system, system_length), d = give(1, device, device_length);
 	uint8_t *out = lend(&out_room, room);
-	tv_written_t w = tv_response(one_in(4), (uint8_t)below(8), s.bytes, s.length, d.bytes, d.length, out, room);
+	tv_written_t w = tv_response(fault, verdict, s.bytes, s.length, d.bytes, d.length, out, room);
 
-	if (written(RESPONSE, w))
-		CHECK(w.length == TV_RESPONSE_LENGTH && out[0] == 0 && out[1] == TV_RESPONSE_LENGTH && out[2] == 0x12 && out[3] == 0xA0);
-	else
-		CHECK(w.refusal == 36 || room < TV_RESPONSE_LENGTH);
+	CHECK(w.refusal == (!good ? 36 : room < TV_RESPONSE_LENGTH ? 4 : 0));
+	if (!written(RESPONSE, w))
+		return;
+	response_by(expected, fault, verdict, system, system_length, device, device_length);
+	CHECK(w.length == TV_RESPONSE_LENGTH && !memcmp(out, expected, sizeof expected));
 }
 
 static void try_verdict(void)
@@ -811,7 +982,7 @@ static uint8_t take(uint8_t ledger)
 
 	given_as_were();
 	if (!counted(LEDGER_TAKE, t.refusal)) {
-		CHECK(!t.receipt && t.ledger == held);
+		CHECK(!t.receipt && t.ledger == ledger);
 		CHECK(t.refusal == (f.refusal ? f.refusal : f.direction == TV_INBOUND ? 52 : 50));
 	} else if (f.operation == TV_OPERATION_PRINT) {
 		CHECK(t.receipt == TV_RECEIPT_HELD && t.ledger == TV_LEDGER_HOLDING && !held);
@@ -829,7 +1000,7 @@ static uint8_t complete(uint8_t ledger)
 
 	only_front(&out_room, c.length);
 	if (!counted(LEDGER_COMPLETE, c.refusal)) {
-		CHECK(!c.length && c.ledger == held && c.refusal == (held ? 4 : 51));
+		CHECK(!c.length && c.ledger == ledger && c.refusal == (held ? 4 : 51));
 		return c.ledger;
 	}
 	uint8_t frame[TV_COMPLETE_LENGTH];

@@ -50,7 +50,8 @@ static bool one_in(size_t n)
 
 /* What each call answered. */
 enum call {
-	LOOK, READ, READ_RECORD, WRITE, SIDES_FRESH, SIDES_RECEIVE, SIDES_REQUEST, ENV_READ, ENV_WRITE, ENV_VALUE, LINE, LIST, TABLE_CHECK,
+	LOOK, READ, READ_RECORD, WRITE, SIDES_FRESH, SIDES_RECEIVE, SIDES_REQUEST, OPTION_RECEIVE, OPTION_REQUEST, OPTION_HEAR, ENV_READ,
+	ENV_WRITE, ENV_VALUE, LINE, LIST, TABLE_CHECK,
 	TABLE_FIND, MAKE_RECORD, DES_TOKEN, DES_SUBSTITUTE, SHA_TOKEN, SHA_SUBSTITUTE, VERDICT, RESPONSE, READ_FRAME, LEDGER_TAKE,
 	LEDGER_COMPLETE, HOW_MANY
 };
@@ -66,6 +67,9 @@ static const struct promise {
 	[SIDES_FRESH] = {"tv_sides_fresh", {0}},
 	[SIDES_RECEIVE] = {"tv_sides_receive", {6}},
 	[SIDES_REQUEST] = {"tv_sides_request", {10, 11, 12, 13}},
+	[OPTION_RECEIVE] = {"tv_option_receive", {4, 5, 6}},
+	[OPTION_REQUEST] = {"tv_option_request", {4, 5, 10, 11, 12, 13}},
+	[OPTION_HEAR] = {"tv_option_hear", {1, 2, 3, 4, 5, 6}},
 	[ENV_READ] = {"tv_env_read", {3, 4, 20, 21, 22, 23, 24, 25}},
 	[ENV_WRITE] = {"tv_env_write", {3, 4, 20, 21, 24, 25, 27}},
 	[ENV_VALUE] = {"tv_env_value", {0}},
@@ -158,14 +162,20 @@ static uint8_t *lend(struct room *room, size_t length)
 	return length || one_in(2) ? room->memory + GUARD : NULL;
 }
 
-/* Nothing but the first so many bytes of a buffer has changed. */
+/* Nothing but the bytes between two places of a buffer has changed. */
+static void only_between(const struct room *room, size_t from, size_t to)
+{
+	size_t after = GUARD + to;
+
+	CHECK(from <= to && to <= room->length);
+	CHECK(!memcmp(room->memory, room->before, GUARD + from));
+	CHECK(!memcmp(room->memory + after, room->before + after, room->length - to + GUARD));
+}
+
+/* Nothing but its first bytes, as many as are told. */
 static void only_front(const struct room *room, size_t length)
 {
-	size_t behind = GUARD + length;
-
-	CHECK(length <= room->length);
-	CHECK(!memcmp(room->memory, room->before, GUARD));
-	CHECK(!memcmp(room->memory + behind, room->before + behind, room->length - length + GUARD));
+	only_between(room, 0, length);
 }
 
 static const uint8_t *front(const struct room *room)

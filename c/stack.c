@@ -64,6 +64,27 @@ static void sides_request(void)
 		sides = tv_sides_request(sides, i & 1, (uint8_t)(i % 41), i & 2).sides;
 }
 
+static void option_receive(void)
+{
+	tv_sides_t sides = tv_sides_fresh();
+	for (unsigned i = 0; i < 4096; i++)
+		sides = tv_option_receive(sides, (uint8_t)(250 + i % 5), (uint8_t)(i % 41), i & 1, out, 8, i % 10).sides;
+}
+
+static void option_request(void)
+{
+	tv_sides_t sides = tv_sides_fresh();
+	for (unsigned i = 0; i < 4096; i++)
+		sides = tv_option_request(sides, i & 1, (uint8_t)(i % 41), i & 2, out, 8, i % 10).sides;
+}
+
+static void option_hear(void)
+{
+	tv_sides_t sides = tv_sides_fresh();
+	for (size_t at = 0; at < line_length + 2; at++)
+		sides = tv_option_hear(sides, line, line_length, at, at & 1, out, 8, at % 10).sides;
+}
+
 /* Payloads of up to 65 variables, then that of 64. */
 static void env_read(void)
 {
@@ -200,6 +221,9 @@ static const struct measure {
 	{"tv_sides_fresh", sides_fresh, TV_STACK_SIDES_FRESH},
 	{"tv_sides_receive", sides_receive, TV_STACK_SIDES_RECEIVE},
 	{"tv_sides_request", sides_request, TV_STACK_SIDES_REQUEST},
+	{"tv_option_receive", option_receive, TV_STACK_OPTION_RECEIVE},
+	{"tv_option_request", option_request, TV_STACK_OPTION_REQUEST},
+	{"tv_option_hear", option_hear, TV_STACK_OPTION_HEAR},
 	{"tv_env_read", env_read, TV_STACK_ENV_READ},
 	{"tv_env_write", env_write, TV_STACK_ENV_WRITE},
 	{"tv_env_value", env_value, TV_STACK_ENV_VALUE},

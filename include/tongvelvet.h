@@ -5,6 +5,7 @@
  * frames of 5250 Telnet, as functions over buffers that the caller lends.
  * There is no I/O, no heap, no global and no hidden state: every call may be
  * made from any thread, and two calls meet only in what they are both given.
+ * The header is C99, and C++11.
  *
  * CONFORMS TO:
  *
@@ -25,9 +26,10 @@
  *
  * Every call takes whatever it is given and ends. Where it cannot answer it
  * refuses by a number, TV_REFUSED_... below. Then no byte of what was lent has
- * changed, and every other field of the answer is 0; sides and ledger are
- * handed back as they were. Where it does not refuse, no byte behind the
- * length that it tells has changed.
+ * changed, and every other field of the answer is 0; but sides, a ledger and
+ * the place on a line are handed back by the very numbers that were given.
+ * Where it does not refuse, no byte after the length that it tells has
+ * changed.
  *
  * STACK:
  *
@@ -35,7 +37,10 @@
  * measured by c/stack.c on the archive as it is built, over inputs that go
  * deep, and rounded up. No stack grows with the length of an input beyond
  * that. Where the C library is bound lazily, the first call of memcpy or
- * memset takes the loader's own stack beside it.
+ * memset takes the loader's own stack beside it. Passwords, tokens and what
+ * was computed of them stay on the stack that a call has left until something
+ * else is written there: nothing is promised about it. Who must wipe them
+ * makes the calls on a stack of his own and wipes that.
  *
  * The archive is built for x86-64 Linux, and needs memcpy and memset alone.
  * c/check builds it.
@@ -84,7 +89,7 @@ extern "C" {
 #define TV_REFUSED_ALREADY_SO 11
 /* The same request is under way. */
 #define TV_REFUSED_UNDER_WAY 12
-/* The same request waits behind another one. */
+/* The same request waits until another one is answered. */
 #define TV_REFUSED_ALREADY_QUEUED 13
 /* No refusal but a note, with a changed state: off was answered by on. */
 #define TV_NOTE_OFF_ANSWERED_BY_ON 14
@@ -116,7 +121,7 @@ extern "C" {
 #define TV_REFUSED_PROFILES_NOT_ASCENDING 32
 /* A profile name is none: 1 to 10 of A-Z, 0-9, $ # @ _. */
 #define TV_REFUSED_BAD_PROFILE_NAME 33
-/* A password is none. */
+/* A password is none: see the call that is given it. */
 #define TV_REFUSED_BAD_PASSWORD 34
 /* The server's seed has not eight bytes. */
 #define TV_REFUSED_BAD_SERVER_SEED 35
@@ -155,9 +160,25 @@ extern "C" {
 #define TV_NEGOTIATION 3
 #define TV_SUBNEGOTIATION 4
 
-/* Commands that a gateway names: tv_event_t.code of a TV_COMMAND. */
-#define TV_EOR 239
+/*
+ * The bytes of the line itself. A caller of tv_look and tv_write needs none of
+ * the three: what is read comes without them, what is written gets them.
+ */
+#define TV_IAC 255 /* before every command; doubled where it is data */
+#define TV_SB 250  /* a subnegotiation begins */
+#define TV_SE 240  /* and ends */
+
+/* Simple commands: tv_event_t.code of a TV_COMMAND. */
+#define TV_EOR 239        /* end of record */
 #define TV_NOP 241
+#define TV_DATA_MARK 242
+#define TV_BREAK 243
+#define TV_INTERRUPT_PROCESS 244
+#define TV_ABORT_OUTPUT 245
+#define TV_ARE_YOU_THERE 246
+#define TV_ERASE_CHARACTER 247
+#define TV_ERASE_LINE 248
+#define TV_GO_AHEAD 249
 
 /* Option commands: tv_event_t.code of a TV_NEGOTIATION. */
 #define TV_WILL 251
@@ -172,12 +193,17 @@ extern "C" {
 #define TV_OPTION_END_OF_RECORD 25
 #define TV_OPTION_NEW_ENVIRON 39
 
-/* The longest payload of a subnegotiation. */
+/* The first byte of a payload of TERMINAL-TYPE. */
+#define TV_TERMINAL_TYPE_IS 0
+#define TV_TERMINAL_TYPE_SEND 1
+
+/* The longest payload of a subnegotiation, each doubled 255 as one. */
 #define TV_PAYLOAD_LIMIT 1024
 
 /*
  * An event. What an event does not have is 0, and all is 0 where the input
- * ended: its next place is 0 then, not the place of the end.
+ * ended: next is 0 then, not the place of the end, so a loop that goes on from
+ * next begins again at the front. Test what first.
  */
 typedef struct tv_event {
 	uint8_t what;    /* TV_END to TV_SUBNEGOTIATION */
@@ -185,19 +211,20 @@ typedef struct tv_event {
 	uint8_t code;    /* the command, or TV_WILL to TV_DONT */
 	uint8_t option;  /* of a negotiation or a subnegotiation */
 	size_t length;   /* how many bytes it carries, each doubled 255 as one */
-	size_t next;     /* the place behind it */
+	size_t next;     /* the place after it */
 } tv_event_t;
 
 /*
- * A record. Where complete and refusal are both 0 the input ended before an
- * end-of-record, and nothing was written: read more from the line and try
- * again from the same place.
+ * A record. Where the input ends before an end-of-record nothing is written:
+ * refusal is 1 where it ends inside a command or a subnegotiation, else
+ * complete and refusal are both 0. Both mean the same: read more from the line
+ * and try again from the same place.
  */
 typedef struct tv_record {
 	uint8_t complete; /* 1 or 0 */
 	uint8_t refusal;
 	size_t length;    /* of its data */
-	size_t next;      /* the place behind its end-of-record */
+	size_t next;      /* the place after its end-of-record */
 } tv_record_t;
 
 /* How many bytes were written to the front of a buffer. */
@@ -226,10 +253,10 @@ extern tv_event_t tv_read(const uint8_t *line, size_t line_length, size_t at,
 
 /*
  * The record from a place on: all data up to the next end-of-record, copied
- * to the front of out. Commands and subnegotiations in between do not break
- * it and are passed over: a caller that has to answer them looks at the
- * events first. Room that always suffices: line_length; it saves a pass, as
- * for tv_read.
+ * to the front of out, in two passes whatever the room. Commands and
+ * subnegotiations in between do not break it and are passed over: a caller
+ * that has to answer them looks at the events first. Room that always
+ * suffices: line_length.
  * Refused as tv_look, by the number of the event that fails, then by 4.
  */
 #define TV_STACK_READ_RECORD 512
@@ -252,9 +279,23 @@ extern tv_written_t tv_write(uint8_t what, uint8_t code, uint8_t option,
 /*
  * Options. The caller keeps the ten sides of a session and hands them in with
  * each call; those that come back are the state for the next one.
+ *
+ * tv_option_request, tv_option_receive and tv_option_hear step the sides and
+ * put the command that is to be sent on a line, in one call: where it finds no
+ * room no step is taken, and nothing is lost. These are the calls for a
+ * gateway. tv_sides_request and tv_sides_receive only tell what is to be
+ * written: a caller that keeps the new sides and then gets 4 from tv_write has
+ * lost the command. The other end never answers what was not sent, and the
+ * request made again is refused by 12.
+ *
+ * A side stays TV_SIDE_WANT_ON or TV_SIDE_WANT_OFF for as long as the other
+ * end is silent: a time limit is the caller's own.
  */
 
-/* The state of a side. Another number reads as TV_SIDE_OFF. */
+/*
+ * The state of a side. Another number reads as TV_SIDE_OFF; a call that
+ * refuses hands it back as it was given.
+ */
 #define TV_SIDE_OFF 0
 #define TV_SIDE_ON 1
 #define TV_SIDE_WANT_OFF 2
@@ -288,6 +329,16 @@ typedef struct tv_answered {
 	uint8_t option;
 } tv_answered_t;
 
+/*
+ * The sides after a call that puts its command on a line, and the place on the
+ * line after it; the same place, where nothing was to be sent.
+ */
+typedef struct tv_sent {
+	tv_sides_t sides;
+	uint8_t number; /* a refusal, TV_NOTE_OFF_ANSWERED_BY_ON, or 0 */
+	size_t place;
+} tv_sent_t;
+
 /* Every side off: the state that a session begins with. Never refused. */
 #define TV_STACK_SIDES_FRESH 512
 extern tv_sides_t tv_sides_fresh(void);
@@ -311,18 +362,64 @@ extern tv_answered_t tv_sides_request(tv_sides_t sides, bool ours,
 		uint8_t option, bool on);
 
 /*
+ * The same with the answer put on line at a place. Room that always suffices:
+ * three bytes from that place on.
+ * Refused by 5 where the place is past the end of the line; by 6 where the
+ * code is no option command; by 4. 14 is a note.
+ */
+#define TV_STACK_OPTION_RECEIVE 512
+extern tv_sent_t tv_option_receive(tv_sides_t sides, uint8_t code,
+		uint8_t option, bool accept,
+		uint8_t *line, size_t line_length, size_t at);
+
+/*
+ * A request with its command put on line at a place, likewise.
+ * Refused by 5; by 10, 11, 12 or 13; by 4.
+ */
+#define TV_STACK_OPTION_REQUEST 512
+extern tv_sent_t tv_option_request(tv_sides_t sides, bool ours,
+		uint8_t option, bool on,
+		uint8_t *line, size_t line_length, size_t at);
+
+/*
+ * What stands at a place of the other end's line: an option command is
+ * answered on this end's line at a place; any other event, and the end, change
+ * nothing and give 0. tv_look tells the next place to hear from.
+ * Refused by 5 where either place is past its end; as tv_look; by 4.
+ */
+#define TV_STACK_OPTION_HEAR 512
+extern tv_sent_t tv_option_hear(tv_sides_t sides,
+		const uint8_t *heard, size_t heard_length, size_t from, bool accept,
+		uint8_t *line, size_t line_length, size_t at);
+
+/*
  * Environment strings: payloads of the subnegotiation of NEW-ENVIRON. A list
- * of variable records is a slice of numbers, five for each variable: its kind,
- * place and length of its name in a buffer, place and length of its value.
+ * of variable records is a slice of numbers, TV_ENV_NUMBERS for each variable:
+ * its kind, place and length of its name in a buffer, place and length of its
+ * value.
  */
 
-/* The first byte of a payload. */
+/*
+ * The first byte of a payload. TV_ENV_SEND asks for variables: a gateway makes
+ * that payload itself, and no call reads it.
+ */
 #define TV_ENV_IS 0
+#define TV_ENV_SEND 1
 #define TV_ENV_INFO 2
 
 /* The kind of a variable. */
 #define TV_ENV_VAR 0
 #define TV_ENV_USERVAR 3
+
+/*
+ * What stands between a name and its value, and before each byte of a name or
+ * a value that is 0 to 3. tv_env_read takes the ESCs away and tv_env_write
+ * puts them; in a payload that the caller makes himself he must put them, also
+ * before such bytes of a server seed in SEND: a seed is random, and in one
+ * session of nine the client finds no seed without them, or another one.
+ */
+#define TV_ENV_VALUE 1
+#define TV_ENV_ESC 2
 
 /* Numbers of a variable record, their order, and how many variables at most. */
 #define TV_ENV_NUMBERS 5
@@ -337,7 +434,7 @@ extern tv_answered_t tv_sides_request(tv_sides_t sides, bool ours,
 typedef struct tv_payload {
 	uint8_t refusal;
 	uint8_t first;    /* TV_ENV_IS or TV_ENV_INFO */
-	size_t variables; /* records, of five numbers each */
+	size_t variables; /* records, of TV_ENV_NUMBERS each */
 	size_t bytes;     /* of their names and values */
 } tv_payload_t;
 
@@ -363,7 +460,7 @@ extern tv_payload_t tv_env_read(const uint8_t *payload, size_t payload_length,
 /*
  * Writes a payload to the front of out: the first byte, then the variables
  * that the records have over bytes, with ESCs where they are needed. Numbers
- * behind the last whole record are not looked at. Room that always suffices:
+ * after the last whole record are not looked at. Room that always suffices:
  * 1,024 bytes.
  * Refused by 20, 27, 21, 24, 25, 3 and 4, each over the whole list first.
  */
@@ -387,8 +484,13 @@ extern tv_value_t tv_env_value(const uint8_t *bytes, size_t bytes_length,
  * Listing: a stream as text, a line for each event, each with its line end.
  */
 
-/* Room that always suffices for a line. */
+/*
+ * Room that always suffices for a line, with its line end; and for the whole
+ * listing of a stream of up to TV_LIST_LIMIT bytes.
+ */
 #define TV_LINE_ROOM 67
+#define TV_LIST_LIMIT 65536
+#define TV_LIST_ROOM 851984
 
 /*
  * The line of what stands at a place, to the front of out: also END, and a
@@ -401,7 +503,7 @@ extern tv_written_t tv_line(const uint8_t *line, size_t line_length, size_t at,
 
 /*
  * The whole listing of a stream, to the front of out, up to END or the first
- * refusal. Room that suffices for up to 65,536 bytes: 851,984.
+ * refusal. Room that suffices for up to TV_LIST_LIMIT bytes: TV_LIST_ROOM.
  * Refused by 4 alone.
  */
 #define TV_STACK_LIST 1024
@@ -409,14 +511,22 @@ extern tv_written_t tv_list(const uint8_t *line, size_t line_length,
 		uint8_t *out, size_t out_length);
 
 /*
- * Profile table: a version byte 1, then records, names strictly ascending.
- * Names are in ASCII; lower case is raised first.
+ * Profile table: a version byte 1, then records, names strictly ascending: by
+ * their ASCII bytes, a name before those that it begins ("A" before "A1"
+ * before "AB"; a table sorted by EBCDIC, digits last, is refused by 32). Names
+ * are in ASCII. A name that is given to a call may have lower case, which is
+ * raised first; one that stands in a table may not, and is refused by 31.
  */
 
-/* The version byte, the most profiles, and room for any record. */
+/* The longest name of a profile or a device, and of a system. */
+#define TV_NAME_LIMIT 10
+#define TV_SYSTEM_NAME_LIMIT 8
+
+/* The version byte, the most profiles, and room for any record and table. */
 #define TV_TABLE_VERSION 1
 #define TV_TABLE_PROFILES 500
 #define TV_RECORD_ROOM 42
+#define TV_TABLE_ROOM 21001
 
 /* How many profiles a table has. */
 typedef struct tv_table {
@@ -444,7 +554,8 @@ extern tv_found_t tv_table_find(const uint8_t *table, size_t table_length,
 
 /*
  * Writes the record of a name and a password to the front of out. A password
- * that has no DES token clears des_allowed and gives a token of zeros. Room
+ * has 1 to TV_PASSWORD_LIMIT bytes of 20X to 7EX, case kept. One that has no
+ * DES token (tv_des_token) clears des_allowed and gives a token of zeros. Room
  * that always suffices: TV_RECORD_ROOM.
  * Refused by 33, 34 and 4.
  */
@@ -459,7 +570,12 @@ extern tv_written_t tv_make_record(const uint8_t *name, size_t name_length,
  * bytes, the first byte highest; what SHA-1 gives is twenty bytes.
  */
 
+#define TV_DES_LENGTH 8
 #define TV_SHA_LENGTH 20
+
+/* The longest password, and the longest that has a DES token. */
+#define TV_PASSWORD_LIMIT 128
+#define TV_DES_PASSWORD_LIMIT 10
 
 /* A token or a substitute of DES. */
 typedef struct tv_block {
@@ -467,7 +583,10 @@ typedef struct tv_block {
 	uint64_t value;
 } tv_block_t;
 
-/* The DES token of a name and a password. Refused by 33 and 34. */
+/*
+ * The DES token of a name and a password, which has 1 to TV_DES_PASSWORD_LIMIT
+ * of the characters of names, lower case raised. Refused by 33 and 34.
+ */
 #define TV_STACK_DES_TOKEN 1536
 extern tv_block_t tv_des_token(const uint8_t *name, size_t name_length,
 		const uint8_t *password, size_t password_length);
@@ -479,8 +598,8 @@ extern tv_block_t tv_des_substitute(uint64_t token,
 		uint64_t server_seed, uint64_t client_seed);
 
 /*
- * The SHA-1 token of a name and a password, to the front of out. Room that
- * always suffices: TV_SHA_LENGTH. Refused by 33, 34 and 4.
+ * The SHA-1 token of a name and a password as in tv_make_record, to the front
+ * of out. Room that always suffices: TV_SHA_LENGTH. Refused by 33, 34 and 4.
  */
 #define TV_STACK_SHA_TOKEN 1536
 extern tv_written_t tv_sha_token(const uint8_t *name, size_t name_length,
@@ -510,7 +629,7 @@ extern tv_written_t tv_sha_substitute(
 #define TV_VERDICT_FAILED 4     /* 0004 */
 #define TV_VERDICT_GRANT 5
 
-/* The length of a server seed, and of a response record. */
+/* The length of a seed, the server's and the client's; of a response record. */
 #define TV_SEED_LENGTH 8
 #define TV_RESPONSE_LENGTH 73
 
@@ -552,7 +671,10 @@ extern tv_written_t tv_response(bool device_fault, uint8_t verdict,
 #define TV_OPERATION_PRINT 1 /* print, or print complete */
 #define TV_OPERATION_CLEAR 2
 
-/* The ledger. Another number reads as TV_LEDGER_IDLE, where it begins. */
+/*
+ * The ledger. Another number reads as TV_LEDGER_IDLE, where it begins; a call
+ * that refuses hands it back as it was given.
+ */
 #define TV_LEDGER_IDLE 0
 #define TV_LEDGER_HOLDING 1
 
@@ -667,6 +789,11 @@ TV_AT(tv_answered_t, number, 10);
 TV_AT(tv_answered_t, writes, 11);
 TV_AT(tv_answered_t, code, 12);
 TV_AT(tv_answered_t, option, 13);
+
+TV_LAYOUT(sizeof(tv_sent_t) == 24);
+TV_AT(tv_sent_t, sides, 0);
+TV_AT(tv_sent_t, number, 10);
+TV_AT(tv_sent_t, place, 16);
 
 TV_LAYOUT(sizeof(tv_payload_t) == 24);
 TV_AT(tv_payload_t, refusal, 0);

@@ -5,3 +5,8 @@ pub mod SessionRefusals
 pub mod PayloadRefusals
 pub mod SignonRefusals
 pub mod Sections
+pub mod MadeSignsOn
+pub mod PlaceOrders
+pub mod RoomOrders
+pub mod OrdersHold
+pub mod ExportRefusals

@@ -13,8 +13,9 @@ use Rattle.refusal.specs.Refusal.{noRoom}
 use Rattle.telnet.specs.Event.{Event, run, command, negotiation, subnegotiation, carriedBytes, lead, payloadLimit, iac, se}
 use Rattle.telnet.specs.declared.Lead.{Lead}
 use Rattle.telnet.specs.declared.Lead.the-variants.{Faulty, Opens, Negotiates, Simple}
-use Rattle.telnet.specs.Write.{doubled, writable, written}
-use Rattle.telnet.specs.Read.{Front, noEvent, found, refused, undoubled, closed, afterSb, afterVerb, afterLead, afterIac, runOr, eventOf}
+use Rattle.telnet.specs.Write.{writable, written}
+use Rattle.telnet.specs.Read.{Front, noEvent, found, refused, eventOf}
+use Rattle.telnet.proofs.Refusals.{FrontBy, front-by}
 use Rattle.telnet.specs.Whole.{Ending, well, refusal, Mode, data′, iacSeen, choosing, opening, payload, closing, failed}
 use Rattle.telnet.specs.Whole.{Step, goes, leads, grown, stepByte, stops, readingFrom, reading, ended}
 use Rattle.telnet.specs.Record.{Gathered, complete, noRecord, isEndOfRecord, withEvent, gathered, recordOf}
@@ -32,71 +33,48 @@ use Rattle.claims.specs.Refusals.{Refusal, noRefusal, refusedBy, oneOf, 
 use Rattle.claims.proofs.OneOf.{more}
 use Rattle.claims.specs.Demand1.{line, RefusesBy, RefusesInto}
 
--- what stands at the front of bytes
-abbrev FrontBy : Front → Type 0
-FrontBy noEvent = Unit {0}
-FrontBy (found e) = Unit {0}
-FrontBy (refused n) = T (oneOf line n)
+-- what stands at the front of bytes is refused by one of the line's numbers
+abbrev pub ByLine : Front → Type 0
+ByLine = FrontBy (λ n. T (oneOf line n))
 
-closed-by : (o : ℕ) (p bs : List ℕ) → FrontBy (closed o p bs)
-unfolding closed oneOf
-closed-by o p [] = tt
-closed-by o p (x ∷ []) = tt
-closed-by o p (x ∷ c ∷ rest) = choice FrontBy (eqb c se) (λ _. tt) (λ _. tt)
+pub by-line : (bs : List ℕ) → ByLine (eventOf bs)
+unfolding oneOf
+by-line = front-by (λ n. T (oneOf line n)) tt tt tt tt
 
-sb-by : (bs : List ℕ) → FrontBy (afterSb bs)
-unfolding afterSb oneOf
-sb-by [] = tt
-sb-by (o ∷ bs) =
-    choice FrontBy (ltb payloadLimit (length (undoubled bs))) (λ _. tt)
-    (λ _. closed-by o (undoubled bs) (drop (length (doubled (undoubled bs))) bs))
+-- what refuses by one of some numbers refuses by one of more
+by-more : (m : ℕ) (ms : List ℕ) {L : Type 0} (before after : L) (r : Refusal) → Refuses ms before after r
+    → Refuses (m ∷ ms) before after r
+by-more m ms before after noRefusal t = tt
+by-more m ms before after (refusedBy n) t = (more m ms n (t .0), t .1)
 
-lead-by : (l : Lead) (c : ℕ) (bs : List ℕ) → FrontBy (afterLead l c bs)
-unfolding afterLead afterVerb oneOf
-lead-by Faulty c bs = tt
-lead-by Opens c bs = sb-by bs
-lead-by (Negotiates v) c [] = tt
-lead-by (Negotiates v) c (o ∷ bs) = tt
-lead-by Simple c bs = tt
-
-iac-by : (bs : List ℕ) → FrontBy (afterIac bs)
-unfolding afterIac oneOf
-iac-by [] = tt
-iac-by (c ∷ bs) = lead-by (lead c) c bs
-
-run-by : (ds : List ℕ) (f : Front) → FrontBy f → FrontBy (runOr ds f)
-unfolding runOr
-run-by [] f t = t
-run-by (d ∷ ds) f t = tt
-
-front-by : (bs : List ℕ) → FrontBy (eventOf bs)
-unfolding eventOf
-front-by [] = tt
-front-by (b ∷ bs) = run-by (undoubled (b ∷ bs)) (afterIac bs) (iac-by bs)
-
-answered-by : (at : ℕ) (f : Front) → FrontBy f → RefusesBy (5 ∷ line) (ofEvent (Reader.answered at f))
+pub answered-by : (at : ℕ) (f : Front) → ByLine f → RefusesBy line (ofEvent (Reader.answered at f))
 unfolding Reader.answered
 answered-by at noEvent t = tt
 answered-by at (found e) t = tt
-answered-by at (refused n) t = (more 5 line n t, refl)
+answered-by at (refused n) t = (t, refl)
 
 pub looks : (s : List ℕ) (at : ℕ) → RefusesBy (5 ∷ line) (ofEvent (lookAt s at))
 unfolding lookAt oneOf
 looks s at =
+    let f = eventOf (drop at s) in
     choice (λ a. RefusesBy (5 ∷ line) (ofEvent a)) (ltb (length s) at) (λ _. (tt, refl))
-    (λ _. answered-by at (eventOf (drop at s)) (front-by (drop at s)))
+    (λ _. by-more 5 line _ _ (ofEvent (Reader.answered at f)) (answered-by at f (by-line (drop at s))))
 
-delivered-by : (at : ℕ) (f : Front) (out : List ℕ) → FrontBy f → RefusesInto (5 ∷ 4 ∷ line) ofEvent out (Reader.delivered at f out)
+pub delivered-by : (at : ℕ) (f : Front) (out : List ℕ) → ByLine f
+    → RefusesInto (4 ∷ line) ofEvent out (Reader.delivered at f out)
 unfolding Reader.delivered Reader.answered oneOf
 delivered-by at noEvent out t = tt
-delivered-by at (refused n) out t = (more 5 (4 ∷ line) n (more 4 line n t), refl)
-delivered-by at (found e) out t = choice (RefusesInto (5 ∷ 4 ∷ line) ofEvent out) (ltb (length out) (length (carriedBytes e))) (λ _. (tt, refl)) (λ _. tt)
+delivered-by at (refused n) out t = (more 4 line n t, refl)
+delivered-by at (found e) out t =
+    choice (RefusesInto (4 ∷ line) ofEvent out) (ltb (length out) (length (carriedBytes e))) (λ _. (tt, refl)) (λ _. tt)
 
 pub reads : (s : List ℕ) (at : ℕ) (out : List ℕ) → RefusesInto (5 ∷ 4 ∷ line) ofEvent out (readAt s at out)
 unfolding readAt oneOf
 reads s at out =
+    let f = eventOf (drop at s) in
+    let by = delivered-by at f out (by-line (drop at s)) in
     choice (RefusesInto (5 ∷ 4 ∷ line) ofEvent out) (ltb (length s) at) (λ _. (tt, refl))
-    (λ _. delivered-by at (eventOf (drop at s)) out (front-by (drop at s)))
+    (λ _. by-more 5 (4 ∷ line) _ _ (ofEvent (Reader.delivered at f out .answer)) by)
 
 pub writes : (e : Event) (out : List ℕ) → RefusesInto (7 ∷ 3 ∷ 4 ∷ []) ofEventWritten out (writeOf e out)
 unfolding writeOf unwritable oneOf
@@ -168,7 +146,7 @@ unfolding readingFrom
 ending-by m [] t = stops-by m t
 ending-by m (b ∷ bs) t = ending-by (stepByte m b .mode) bs (step-by m b t)
 
-abbrev GatheredBy : Gathered → Type 0
+abbrev pub GatheredBy : Gathered → Type 0
 GatheredBy (complete d n) = Unit {0}
 GatheredBy (noRecord how) = EndingBy how
 
@@ -182,18 +160,24 @@ unfolding gathered
 gathered-by [] how t = t
 gathered-by (e ∷ es) how t = choice GatheredBy (isEndOfRecord e) (λ _. tt) (λ _. with-by e (gathered es how) (gathered-by es how t))
 
-kept-by : (at : ℕ) (g : Gathered) (out : List ℕ) → GatheredBy g → RefusesInto (5 ∷ 4 ∷ line) ofRecord out (kept at g out)
+pub record-by : (bs : List ℕ) → GatheredBy (recordOf bs)
+unfolding recordOf reading
+record-by bs = gathered-by (reading bs .events) (reading bs .ending) (ending-by (data′ []) bs tt)
+
+pub kept-by : (at : ℕ) (g : Gathered) (out : List ℕ) → GatheredBy g
+    → RefusesInto (4 ∷ line) ofRecord out (kept at g out)
 unfolding kept answerNoRecord oneOf
 kept-by at (noRecord well) out t = tt
-kept-by at (noRecord (refusal n)) out t = (more 5 (4 ∷ line) n (more 4 line n t), refl)
-kept-by at (complete d n) out t = choice (RefusesInto (5 ∷ 4 ∷ line) ofRecord out) (ltb (length out) (length d)) (λ _. (tt, refl)) (λ _. tt)
+kept-by at (noRecord (refusal n)) out t = (more 4 line n t, refl)
+kept-by at (complete d n) out t =
+    choice (RefusesInto (4 ∷ line) ofRecord out) (ltb (length out) (length d)) (λ _. (tt, refl)) (λ _. tt)
 
 pub reads-records : (s : List ℕ) (at : ℕ) (out : List ℕ) → RefusesInto (5 ∷ 4 ∷ line) ofRecord out (recordAt s at out)
-unfolding recordAt recordOf reading oneOf
+unfolding recordAt oneOf
 reads-records s at out =
-    let bs = drop at s in
+    let g = recordOf (drop at s) in
     choice (RefusesInto (5 ∷ 4 ∷ line) ofRecord out) (ltb (length s) at) (λ _. (tt, refl))
-    (λ _. kept-by at (recordOf bs) out (gathered-by (reading bs .events) (reading bs .ending) (ending-by (data′ []) bs tt)))
+    (λ _. by-more 5 (4 ∷ line) _ _ (ofRecord (kept at g out .answer)) (kept-by at g out (record-by (drop at s))))
 
 -- one side of an option, by the table or as one that is not carried
 abbrev ReceivesBy : (Side → Row) → Type 0

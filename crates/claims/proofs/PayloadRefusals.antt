@@ -1,28 +1,27 @@
--- Environment strings: reader and writer refuse by their own numbers, and leave buffer and list as they were. Assumes nothing.
-use mathlib.Core.Path.{_≡_, refl}
-use mathlib.Core.Bool.{Bool, true, false}
+-- Environment strings: the reader, what it is made of, and the writer refuse by their own numbers, and leave buffer
+-- and list as they were. Assumes nothing.
+use mathlib.Core.Path.{refl}
 use mathlib.Core.List.{List, [], _∷_}
 use Prim.Native.Nat.{ℕ, suc}
 use lib.Dec.{T, ltb}
 use lib.ListN.{length}
-use Rattle.octets.specs.Choice.{if_then_else_}
-use Rattle.octets.specs.Lent.{Outcome, outcome}
+use Rattle.octets.specs.Lent.{Outcome}
 use Rattle.octets.proofs.Choice.{choice}
 use Rattle.telnet.specs.Event.{payloadLimit}
 use Rattle.env.specs.declared.VariableRecord.{VariableRecord}
 use Rattle.env.specs.Variable.{Variable, variable, variableLimit, isFirst, repeated}
-use Rattle.env.specs.Fields.{Text, text, broken, Field, nameField, valueField, Row, rowOf}
+use Rattle.env.specs.Fields.{Text, text, broken, Field, nameField, valueField, rowOf}
 use Rattle.env.specs.Read.{Found, variables, fault, addVariable, limited, whole, named, names, expectNoText, variablesOf, Reading, says, notRead, distinct, begun, readingOf}
 use Rattle.env.specs.Write.{Objection, none, against, objection, payloadOf, nameless}
 use Rattle.env.specs.Numbers.{packed, recorded, held, placed}
 use Rattle.env_delivery.specs.declared.Answer.{Answer}
-use Rattle.env_delivery.specs.Promise.{Delivery, delivered, readInto}
+use Rattle.env_delivery.specs.Promise.{Delivery, delivered, readInto, readBehind, handOver, deliverRead}
 use Rattle.env_list.specs.Reading.{listed, readRecords}
 use Rattle.env_list.specs.Lists.{Listing}
 use Rattle.env_writer.specs.Promise.{put, writeInto}
-use Rattle.refusal.specs.Refusal.{noVariable, valueInValue}
-use Rattle.claims.specs.Refusals.{Refusal, oneOf, Refuses, ofPayload, ofPayloadWritten}
-use Rattle.claims.specs.Demand1.{payload, RefusesInto}
+use Rattle.refusal.specs.Refusal.{noRoom, noVariable, valueInValue}
+use Rattle.claims.specs.Refusals.{oneOf, Refuses, ofPayload, ofPayloadWritten}
+use Rattle.claims.specs.Demand1.{payload, RefusesInto, RefusesBoth}
 use Rattle.claims.proofs.OneOf.{more}
 
 -- the first fault of variables
@@ -75,31 +74,59 @@ unfolding distinct oneOf
 distinct-by first (fault n) t = t
 distinct-by first (variables vs) t = choice ReadingBy (repeated vs) (λ _. tt) (λ _. tt)
 
+-- after the first byte
+rest-by : (first : ℕ) (rest : List ℕ) → ReadingBy (distinct first (variablesOf (rowOf rest)))
+unfolding variablesOf oneOf
+rest-by first rest =
+    let row = rowOf rest in distinct-by first _ (expect-by (row .front) _ (names-by noVariable tt 0 (row .fields)))
+
 begun-by : (p : List ℕ) → ReadingBy (begun p)
-unfolding begun variablesOf oneOf
+unfolding begun oneOf
 begun-by [] = tt
-begun-by (b ∷ bs) =
-    choice ReadingBy (isFirst b)
-    (λ _. distinct-by b (variablesOf (rowOf bs)) (expect-by (rowOf bs .front) _ (names-by noVariable tt 0 (rowOf bs .fields))))
-    (λ _. tt)
+begun-by (b ∷ bs) = choice ReadingBy (isFirst b) (λ _. rest-by b bs) (λ _. tt)
 
 pub reading-by : (p : List ℕ) → ReadingBy (readingOf p)
 unfolding readingOf oneOf
 reading-by p = choice ReadingBy (ltb payloadLimit (length p)) (λ _. tt) (λ _. begun-by p)
 
 -- the reader into buffer and numbers
-abbrev DeliversBy : List ℕ → List ℕ → Delivery → Type 0
-DeliversBy bytes numbers d = Refuses (4 ∷ payload) {L = List ℕ × List ℕ} (bytes, numbers) (d .bytes, d .numbers) (ofPayload (d .answer))
-
-delivered-by : (r : Reading) (bytes numbers : List ℕ) → ReadingBy r → DeliversBy bytes numbers (delivered r bytes numbers)
+delivered-by : (r : Reading) (bytes numbers : List ℕ)
+    → ReadingBy r → RefusesBoth (4 ∷ payload) bytes numbers (delivered r bytes numbers)
 unfolding delivered oneOf
 delivered-by (notRead n) bytes numbers t = (more 4 payload n t, refl)
 delivered-by (says first vs) bytes numbers t =
-    choice (DeliversBy bytes numbers) (ltb (length bytes) (length (packed vs))) (λ _. (tt, refl))
-    (λ _. choice (DeliversBy bytes numbers) (ltb (length numbers) (length (recorded 0 vs))) (λ _. (tt, refl)) (λ _. tt))
+    let By : Delivery → Type 0 = RefusesBoth (4 ∷ payload) bytes numbers in
+    choice By (ltb (length bytes) (length (packed vs))) (λ _. (tt, refl))
+    (λ _. choice By (ltb (length numbers) (length (recorded 0 vs))) (λ _. (tt, refl)) (λ _. tt))
 
-pub reads-payloads : (p bytes numbers : List ℕ) → DeliversBy bytes numbers (readInto p bytes numbers)
+pub reads-payloads : (p bytes numbers : List ℕ) → RefusesBoth (4 ∷ payload) bytes numbers (readInto p bytes numbers)
 reads-payloads p bytes numbers = delivered-by (readingOf p) bytes numbers (reading-by p)
+
+-- what it is made of
+pub reads-variables : (first : ℕ) (rest bytes numbers : List ℕ)
+    → RefusesBoth (4 ∷ payload) bytes numbers (readBehind first rest bytes numbers)
+unfolding readBehind oneOf
+reads-variables first rest bytes numbers =
+    choice (RefusesBoth (4 ∷ payload) bytes numbers) (ltb payloadLimit (length (first ∷ rest))) (λ _. (tt, refl))
+    (λ _. delivered-by _ bytes numbers (rest-by first rest))
+
+module _ (first : ℕ) (texts records bytes numbers : List ℕ) where
+  handed-by : (ms : List ℕ) → T (oneOf ms noRoom)
+      → RefusesBoth ms bytes numbers (handOver first texts records bytes numbers)
+  unfolding handOver
+  handed-by ms four =
+      choice (RefusesBoth ms bytes numbers) (ltb (length bytes) (length texts)) (λ _. (four, refl))
+      (λ _. choice (RefusesBoth ms bytes numbers) (ltb (length numbers) (length records)) (λ _. (four, refl)) (λ _. tt))
+
+  pub hands-over : RefusesBoth (4 ∷ []) bytes numbers (handOver first texts records bytes numbers)
+  unfolding oneOf
+  hands-over = handed-by (4 ∷ []) tt
+
+  pub delivers : RefusesBoth (25 ∷ 4 ∷ []) bytes numbers (deliverRead first texts records bytes numbers)
+  unfolding deliverRead oneOf
+  delivers =
+      choice (RefusesBoth (25 ∷ 4 ∷ []) bytes numbers) (repeated (held texts records)) (λ _. (tt, refl))
+      (λ _. handed-by (25 ∷ 4 ∷ []) tt)
 
 -- the reader into a list of records
 abbrev ListsBy : List ℕ → List VariableRecord → Listing (Outcome Answer) → Type 0

@@ -1,50 +1,32 @@
--- The ten sides of a session: a receipt refuses nothing, and a refused request leaves all ten as they were; with the command put on the line, one that
--- finds no room leaves sides and line as they were. Assumes nothing.
-use mathlib.Core.Path.{_≡_, refl, ap, _∙_}
-use mathlib.Core.Bool.{Bool}
-use mathlib.Core.List.{List, [], _∷_, _++_}
-use Prim.Native.Nat.{ℕ, _+_}
-use lib.Dec.{T, leb, eqb}
-use lib.ListN.{length}
-use Rattle.octets.proofs.Choice.{choice}
-use Rattle.refusal.specs.Refusal.{noRoom, offAnsweredByOn}
-use Rattle.telnet.specs.declared.Kind.the-variants.{Data, Command as Simple, Negotiation, Subnegotiation}
-use Rattle.telnet_reader.specs.declared.Answer.{Answer}
-use Rattle.telnet_reader.specs.declared.Answer.the-variants.{End, Found, Refused as NotRead}
-use Rattle.telnet_reader.specs.Promise.{lookAt}
-use Rattle.option_rules.specs.declared.Command.{Command}
-use Rattle.option_rules.specs.declared.Command.the-variants.{On as on, Off as off}
-use Rattle.option_rules.specs.declared.Side.{Side}
-use Rattle.option_rules.specs.Table.{Cell, to, _send_, _note_, refuse, choose, rulesOf, stepBy, onReceive}
-use Rattle.option_sides.specs.declared.Whose.{Whose}
-use Rattle.option_sides.specs.declared.Whose.the-variants.{Ours, Other}
-use Rattle.option_sides.specs.declared.Pair.{Pair}
-use Rattle.option_sides.specs.declared.Sides.{Sides}
-use Rattle.option_sides.specs.declared.Answered.{Answered}
-use Rattle.option_sides.specs.declared.Outgoing.{Outgoing}
-use Rattle.option_sides.specs.declared.Outgoing.the-variants.{Nothing, Event}
+-- The ten sides of a session: a receipt refuses nothing, and a refused request leaves all ten as they were; with the command put on the line, every
+-- refusal leaves sides, line and place as they were. Assumes nothing.
+use mathlib.Core.Path.{_≡_, refl, ap, subst, subst⁻¹, _∙_}
+use mathlib.Core.Bool.{Bool, true, false}
+use mathlib.Core.List.{List, [], _∷_}
+use Prim.Native.Nat.{ℕ}
+use lib.Dec.{eqb}
+use lib.ListN.{drop}
+use borrow.Author.Tests.{eqb-true, eqb-false}
+use Rattle.octets.specs.Lent.{Outcome}
+use Rattle.refusal.specs.Refusal.{offAnsweredByOn}
 use Rattle.telnet.specs.declared.Verb.{Verb}
+use Rattle.telnet.proofs.Refusals.{front-by}
+use Rattle.option_rules.specs.declared.Command.{Command}
+use Rattle.option_rules.specs.declared.Side.{Side}
+use Rattle.option_sides.specs.declared.Whose.{Whose}
+use Rattle.option_sides.specs.declared.Sides.{Sides}
 use Rattle.option_sides.specs.Verbs.{toldBy}
-use Rattle.option_sides.specs.Session.{ofPair, inPair, pairAt, withPair, sideAt, withSide, answeredBy, received, requested}
-use Rattle.option_sides.proofs.Setting.{by-option}
-use Rattle.option_line.specs.Line.{commandBytes, sentWith, sentBy, receivedOn, requestedOn, heardAs, heardOn}
-use Rattle.claims.specs.Refusals.{Refusal, noRefusal, refusedBy, oneOf, Refuses, byNumber, byReceipt, ofEvent}
+use Rattle.option_sides.specs.Session.{sideAt, withSide, received, requested}
+use Rattle.option_sides.proofs.Setting.{own-side}
+use Rattle.option_line.specs.declared.Sent.{Sent}
+use Rattle.option_line.specs.Line.{receivedOn, requestedOn, heardOn}
+use Rattle.option_line.specs.Theorems.{Kept}
+use Rattle.option_line.proofs.Telling.{number-by, request-tells-all, receipt-tells-all}
+use Rattle.option_line.proofs.Hearing.{heard-number, hear-tells}
+use Rattle.claims.specs.Refusals.{Refusal, noRefusal, refusedBy, oneOf, Refuses, byNumber, byReceipt}
 use Rattle.claims.specs.Demand1.{line, RefusesBy, RefusesOnLine}
-use Rattle.claims.proofs.OneOf.{more, behind}
-use Rattle.claims.proofs.LineRefusals.{looks}
+use Rattle.claims.proofs.OneOf.{of-none, more, wider, numbers-of}
 use Rattle.claims.proofs.LineRefusals.{receives, requests}
-
--- a side set to what it is
-own-pair : (s : Sides) (o : ℕ) → withPair s o (pairAt s o) ≡ s
-unfolding withPair pairAt choose
-own-pair s o = by-option (λ (u : Sides). u ≡ s) o (λ e. rw e) (λ e. rw e) (λ e. rw e) (λ e. rw e) (λ e. rw e) (λ _. refl)
-
-own-in : (p : Pair) (w : Whose) → inPair p w (ofPair p w) ≡ p
-own-in p Ours = refl
-own-in p Other = refl
-
-own-side : (s : Sides) (w : Whose) (o : ℕ) → withSide s w o (sideAt s w o) ≡ s
-own-side s w o = ap (withPair s o) (own-in (pairAt s o) w) ∙ own-pair s o
 
 -- what one side does, said of the session
 session-by : (numbers : List ℕ) (s : Sides) (w : Whose) (o : ℕ) (x : Side) (r : Refusal) → Refuses numbers (sideAt s w o) x r → Refuses numbers s (withSide s w o x) r
@@ -61,80 +43,73 @@ pub session-requests : (s : Sides) (w : Whose) (o : ℕ) (c : Command)
     → Refuses (10 ∷ 11 ∷ 12 ∷ 13 ∷ []) s (requested s w o c .sides) (byNumber (requested s w o c .number))
 session-requests s w o c = session-by (10 ∷ 11 ∷ 12 ∷ 13 ∷ []) s w o _ (byNumber (requested s w o c .number)) (requests o (sideAt s w o) c)
 
--- what sends a command has the number 0
-abbrev Quiet : ℕ → Outgoing → Type 0
-Quiet n Nothing = Unit {0}
-Quiet n (Event k) = n ≡ 0
+-- what is refused by one of some numbers and leaves all as it was
+kept-so : (numbers : List ℕ) {L : Type 0} (found left : L) (r : Refusal) → RefusesBy numbers r → left ≡ found → Refuses numbers found left r
+kept-so numbers found left noRefusal t e = tt
+kept-so numbers found left (refusedBy n) t e = (t .0, e)
 
-abbrev QuietAnswer : Answered → Type 0
-QuietAnswer a = Quiet (a .number) (a .writes)
+-- A step with its command on the line refuses by some numbers, if its number is one of them or none, and a refusal keeps all.
+module _ (numbers : List ℕ) (by : ℕ → Refusal) (zero-by : by 0 ≡ noRefusal)
+    (note-by : RefusesBy numbers (by offAnsweredByOn) → by offAnsweredByOn ≡ noRefusal) (s : Sides) (l : List ℕ) (at : ℕ) (u : Outcome Sent) where
+  abbrev number : ℕ
+  number = u .answer .number
 
-quiet-cell : (s : Sides) (w : Whose) (o : ℕ) (x : Side) (e : Cell) → QuietAnswer (answeredBy s w o (stepBy x e))
-quiet-cell s w o x (to t) = tt
-quiet-cell s w o x (t send c) = refl
-quiet-cell s w o x (t note n) = tt
-quiet-cell s w o x (refuse n) = tt
+  abbrev Goal : Refusal → Type 0
+  Goal r = Refuses numbers {L = Sides × (List ℕ × ℕ)} (s, (l, at)) (u .answer .sides, (u .lent, u .answer .place)) r
 
-quiet-receipt : (s : Sides) (v : Verb) (o : ℕ) (accept : Bool) → QuietAnswer (received s v o accept)
-quiet-receipt s v o accept = by-command (toldBy v .whose) (toldBy v .command)
-  where
-    by-command : (w : Whose) (c : Command) → QuietAnswer (answeredBy s w o (onReceive (rulesOf o) (sideAt s w o) accept c))
-    by-command w on = quiet-cell s w o (sideAt s w o) (rulesOf o (sideAt s w o) .receiveOn accept)
-    by-command w off = quiet-cell s w o (sideAt s w o) (rulesOf o (sideAt s w o) .receiveOff)
+  by-note : RefusesBy numbers (by number) → Kept s l at u → (number ≡ 0 → ⊥) → (b : Bool) → eqb number offAnsweredByOn ≡ b → Goal (by number)
+  by-note t kept z true e =
+      let is = eqb-true number offAnsweredByOn e in
+      subst⁻¹ Goal (ap by is ∙ note-by (subst (λ k. RefusesBy numbers (by k)) is t)) tt
+  by-note t kept z false e =
+      kept-so numbers _ _ (by number) t
+      (ap (λ (o : Outcome Sent). (o .answer .sides, (o .lent, o .answer .place))) (kept z (eqb-false number offAnsweredByOn e)))
 
-quiet-request : (s : Sides) (w : Whose) (o : ℕ) (c : Command) → QuietAnswer (requested s w o c)
-quiet-request s w o on = quiet-cell s w o (sideAt s w o) (rulesOf o (sideAt s w o) .requestOn)
-quiet-request s w o off = quiet-cell s w o (sideAt s w o) (rulesOf o (sideAt s w o) .requestOff)
+  by-zero : RefusesBy numbers (by number) → Kept s l at u → (b : Bool) → eqb number 0 ≡ b → Goal (by number)
+  by-zero t kept true e = subst⁻¹ Goal (ap by (eqb-true number 0 e) ∙ zero-by) tt
+  by-zero t kept false e = by-note t kept (eqb-false number 0 e) (eqb number offAnsweredByOn) refl
 
--- what the rules refuse, and 4, with the line
-module _ (numbers : List ℕ) (by : ℕ → Refusal) (zero-by : by 0 ≡ noRefusal) (four-by : by noRoom ≡ refusedBy noRoom) (among : T (oneOf (numbers ++ noRoom ∷ []) noRoom)) where
-  with-line : (s x : Sides) (l : List ℕ) (r : Refusal) → Refuses numbers s x r → Refuses (numbers ++ noRoom ∷ []) {L = Sides × List ℕ} (s, l) (x, l) r
-  with-line s x l noRefusal t = tt
-  with-line s x l (refusedBy n) t = (behind numbers (noRoom ∷ []) n (t .0), ap (λ (y : Sides). (y, l)) (t .1))
+  on-line : RefusesBy numbers (by number) → Kept s l at u → RefusesOnLine numbers by s l at u
+  on-line t kept = by-zero t kept (eqb number 0) refl
 
-  by-writing : (s x : Sides) (n : ℕ) (e : Outgoing) (l : List ℕ) (at : ℕ) → Refuses numbers s x (by n) → Quiet n e
-      → RefusesOnLine (numbers ++ noRoom ∷ []) by s l (sentBy s record { sides = x; number = n; writes = e } l at)
-  unfolding sentBy sentWith
-  by-writing s x n Nothing l at t q = with-line s x l (by n) t
-  by-writing s x n (Event k) l at t q =
-      choice (RefusesOnLine (numbers ++ noRoom ∷ []) by s l) (leb (at + length (commandBytes k)) (length l))
-      (λ _. rw (q, zero-by) tt)
-      (λ _. rw four-by (among, refl))
-
-  sent-by : (s : Sides) (a : Answered) (l : List ℕ) (at : ℕ) → Refuses numbers s (a .sides) (by (a .number)) → QuietAnswer a
-      → RefusesOnLine (numbers ++ noRoom ∷ []) by s l (sentBy s a l at)
-  sent-by s a l at t q = by-writing s (a .sides) (a .number) (a .writes) l at t q
-
-pub line-receives : (s : Sides) (v : Verb) (o : ℕ) (accept : Bool) (l : List ℕ) (at : ℕ) → RefusesOnLine (4 ∷ []) byReceipt s l (receivedOn s v o accept l at)
-unfolding oneOf
-line-receives s v o accept l at =
-    sent-by [] byReceipt refl refl tt s (received s v o accept) l at (session-receives s v o accept) (quiet-receipt s v o accept)
+abbrev requestNumbers : List ℕ
+requestNumbers = 10 ∷ 11 ∷ 12 ∷ 13 ∷ []
 
 pub line-requests : (s : Sides) (w : Whose) (o : ℕ) (c : Command) (l : List ℕ) (at : ℕ)
-    → RefusesOnLine (10 ∷ 11 ∷ 12 ∷ 13 ∷ 4 ∷ []) byNumber s l (requestedOn s w o c l at)
+    → RefusesOnLine (5 ∷ 4 ∷ requestNumbers) byNumber s l at (requestedOn s w o c l at)
 unfolding oneOf
 line-requests s w o c l at =
-    sent-by (10 ∷ 11 ∷ 12 ∷ 13 ∷ []) byNumber refl refl tt s (requested s w o c) l at (session-requests s w o c) (quiet-request s w o c)
+    let told = request-tells-all s w o c l at in
+    let r = byNumber (requested s w o c .number) in
+    on-line (5 ∷ 4 ∷ requestNumbers) byNumber refl (λ t. absurd (t .0)) s l at (requestedOn s w o c l at)
+    (number-by (λ n. RefusesBy (5 ∷ 4 ∷ requestNumbers) (byNumber n)) (tt, refl) (tt, refl) s w o _ l at (requestedOn s w o c l at) told
+    (numbers-of _ s _ r
+    (wider _ _ (λ n t. more 5 (4 ∷ requestNumbers) n (more 4 requestNumbers n t)) s _ r (session-requests s w o c))))
+    (told .kept)
 
--- by more numbers
-by-more : (ms ks : List ℕ) {L : Type 0} (found left : L) (r : Refusal) → Refuses ms found left r → Refuses (ms ++ ks) found left r
-by-more ms ks found left noRefusal t = tt
-by-more ms ks found left (refusedBy n) t = (behind ms ks n (t .0), t .1)
+-- a receipt refuses nothing
+nothing-refused : (ms : List ℕ) (s : Sides) (v : Verb) (o : ℕ) (accept : Bool)
+    → RefusesBy ms (byReceipt (received s v o accept .number))
+nothing-refused ms s v o accept =
+    let r = byReceipt (received s v o accept .number) in
+    numbers-of ms s _ r (wider [] ms (of-none ms) s _ r (session-receives s v o accept))
+
+pub line-receives : (s : Sides) (v : Verb) (o : ℕ) (accept : Bool) (l : List ℕ) (at : ℕ)
+    → RefusesOnLine (5 ∷ 4 ∷ []) byReceipt s l at (receivedOn s v o accept l at)
+unfolding oneOf
+line-receives s v o accept l at =
+    let told = receipt-tells-all s v o accept l at in
+    on-line (5 ∷ 4 ∷ []) byReceipt refl (λ _. refl) s l at (receivedOn s v o accept l at)
+    (number-by (λ n. RefusesBy (5 ∷ 4 ∷ []) (byReceipt n)) (tt, refl) (tt, refl) s (toldBy v .whose) o _ l at (receivedOn s v o accept l at) told
+    (nothing-refused (5 ∷ 4 ∷ []) s v o accept))
+    (told .kept)
 
 pub line-hears : (s : Sides) (heard : List ℕ) (from : ℕ) (accept : Bool) (l : List ℕ) (at : ℕ)
-    → RefusesOnLine (4 ∷ 5 ∷ line) byReceipt s l (heardOn s heard from accept l at)
-unfolding heardOn
-line-hears s heard from accept l at = by-answer (lookAt heard from) (looks heard from)
-  where
-    by-answer : (a : Answer) → RefusesBy (5 ∷ line) (ofEvent a) → RefusesOnLine (4 ∷ 5 ∷ line) byReceipt s l (heardAs s a accept l at)
-    by-answer End t = tt
-    by-answer (Found Data n next) t = tt
-    by-answer (Found (Simple c) n next) t = tt
-    by-answer (Found (Negotiation v o) n next) t =
-        let r = receivedOn s v o accept l at in
-        by-more (4 ∷ []) (5 ∷ line) {L = Sides × List ℕ} (s, l) (r .answer .sides, r .lent) (byReceipt (r .answer .number)) (line-receives s v o accept l at)
-    by-answer (Found (Subnegotiation o) n next) t = tt
-    by-answer (NotRead n) t =
-        choice (Refuses (4 ∷ 5 ∷ line) {L = Sides × List ℕ} (s, l) (s, l)) (eqb n offAnsweredByOn)
-        (λ _. tt)
-        (λ _. choice (Refuses (4 ∷ 5 ∷ line) {L = Sides × List ℕ} (s, l) (s, l)) (eqb n 0) (λ _. tt) (λ _. (more 4 (5 ∷ line) n (t .0), refl)))
+    → RefusesOnLine (5 ∷ 4 ∷ line) byReceipt s l at (heardOn s heard from accept l at)
+unfolding oneOf
+line-hears s heard from accept l at =
+    on-line (5 ∷ 4 ∷ line) byReceipt refl (λ _. refl) s l at (heardOn s heard from accept l at)
+    (heard-number s heard from accept l at (λ n. RefusesBy (5 ∷ 4 ∷ line) (byReceipt n)) (tt, refl) (tt, refl) tt
+    (λ v o. nothing-refused (5 ∷ 4 ∷ line) s v o accept)
+    (front-by (λ n. RefusesBy (5 ∷ 4 ∷ line) (byReceipt n)) (tt, refl) (tt, refl) (tt, refl) (tt, refl) (drop from heard)))
+    (hear-tells s heard from accept l at .kept)

@@ -1,7 +1,13 @@
 -- The owner's demand 1: "Every public entry point takes whatever bytes arrive, comes to an end, and refuses bad input by a number from our list. A refusal
 -- leaves every lent buffer exactly as it was found." That it takes whatever arrives and ends is the checker's own word: no entry point has a `requires`, and
 -- every function is proved to return. What is said here is the second half, entry point by entry point, over the definitions that their promises equal: by
--- which of the specification's numbers each may refuse, and that it then leaves every buffer, list and state as it was.
+-- which of the specification's numbers each may refuse, and that it then leaves every buffer, list and state as it was. The entry points of a gateway in C are
+-- on a page of their own, `Demand1C.antt`.
+--
+-- An entry point is a public function that can refuse. The others answer every input, and so have nothing to say here: tests answer true or false
+-- (`option_rules::carried`, `names::is_name`, `password_check::gives_des` and their like); `env_records::find` and `value_of` and `profile_tokens` answer absent, an empty
+-- part or zeros for what is not there; `octets::put`, `octets_marked::put_marked` and `octets::put_decimal`, helpers of the core, answer false, or the place that they
+-- were given, where there is no room, and write nothing then.
 use Prim.Native.Nat.{ℕ}
 use mathlib.Core.Bool.{Bool}
 use mathlib.Core.List.{List, [], _∷_, _++_}
@@ -21,7 +27,7 @@ use Rattle.option_line.specs.declared.Sent.{Sent}
 use Rattle.option_line.specs.Line.{receivedOn, requestedOn, heardOn}
 use Rattle.telnet.specs.declared.Verb.{Verb}
 use Rattle.env.specs.declared.VariableRecord.{VariableRecord}
-use Rattle.env_delivery.specs.Promise.{readInto}
+use Rattle.env_delivery.specs.Promise.{Delivery, readInto, readBehind, deliverRead, handOver}
 use Rattle.env_list.specs.Reading.{readRecords}
 use Rattle.env_writer.specs.Promise.{writeInto}
 use Rattle.print_frame.specs.Frame.{frameOf}
@@ -60,9 +66,14 @@ RefusesBy numbers r = Refuses numbers {L = Unit {0}} tt tt r
 abbrev pub RefusesInto : {A : Type 0} → List ℕ → (A → Refusal) → List ℕ → Outcome A → Type 0
 RefusesInto numbers of out o = Refuses numbers out (o .lent) (of (o .answer))
 
--- a step of the sides with its command: by one of these numbers, with sides and line as they were
-abbrev pub RefusesOnLine : List ℕ → (ℕ → Refusal) → Sides → List ℕ → Outcome Sent → Type 0
-RefusesOnLine numbers by s l o = Refuses numbers {L = Sides × List ℕ} (s, l) (o .answer .sides, o .lent) (by (o .answer .number))
+-- a payload that is read: with buffer and list as they were
+abbrev pub RefusesBoth : List ℕ → (bytes numbers : List ℕ) → Delivery → Type 0
+RefusesBoth numbers bytes list d = Refuses numbers {L = List ℕ × List ℕ} (bytes, list) (d .bytes, d .numbers) (ofPayload (d .answer))
+
+-- a step of the sides with its command: by one of these numbers, with sides, line and place as they were
+abbrev pub RefusesOnLine : List ℕ → (ℕ → Refusal) → Sides → (line : List ℕ) (at : ℕ) → Outcome Sent → Type 0
+RefusesOnLine numbers by s l at o =
+    Refuses numbers {L = Sides × (List ℕ × ℕ)} (s, (l, at)) (o .answer .sides, (o .lent, o .answer .place)) (by (o .answer .number))
 
 pub record Demand1 : Type 0 where
   -- events and records of the line: `look`, `read`, `read_record`, `write`
@@ -79,20 +90,24 @@ pub record Demand1 : Type 0 where
   pub sessionReceive : (s : Sides) (v : Verb) (o : ℕ) (accept : Bool) → Refuses [] s (received s v o accept .sides) (byReceipt (received s v o accept .number))
   pub sessionRequest : (s : Sides) (w : Whose) (o : ℕ) (c : Command)
       → Refuses (10 ∷ 11 ∷ 12 ∷ 13 ∷ []) s (requested s w o c .sides) (byNumber (requested s w o c .number))
-  -- with the command put on the line, also where it finds no room
-  pub lineReceive : (s : Sides) (v : Verb) (o : ℕ) (accept : Bool) (l : List ℕ) (at : ℕ) → RefusesOnLine (4 ∷ []) byReceipt s l (receivedOn s v o accept l at)
+  -- with the command put on the line, also where it finds no room or its place is past the end
+  pub lineReceive : (s : Sides) (v : Verb) (o : ℕ) (accept : Bool) (l : List ℕ) (at : ℕ)
+      → RefusesOnLine (5 ∷ 4 ∷ []) byReceipt s l at (receivedOn s v o accept l at)
   pub lineRequest : (s : Sides) (w : Whose) (o : ℕ) (c : Command) (l : List ℕ) (at : ℕ)
-      → RefusesOnLine (10 ∷ 11 ∷ 12 ∷ 13 ∷ 4 ∷ []) byNumber s l (requestedOn s w o c l at)
+      → RefusesOnLine (5 ∷ 4 ∷ 10 ∷ 11 ∷ 12 ∷ 13 ∷ []) byNumber s l at (requestedOn s w o c l at)
   -- and where what is heard cannot be read
   pub lineHear : (s : Sides) (heard : List ℕ) (from : ℕ) (accept : Bool) (l : List ℕ) (at : ℕ)
-      → RefusesOnLine (4 ∷ 5 ∷ line) byReceipt s l (heardOn s heard from accept l at)
-  -- environment strings: `env_reader::read`, `env_list::read_records`, `env_writer::write`
-  pub readPayload : (p bytes numbers : List ℕ)
-      → Refuses (4 ∷ payload) {L = List ℕ × List ℕ} (bytes, numbers) (readInto p bytes numbers .bytes, readInto p bytes numbers .numbers) (ofPayload (readInto p bytes numbers .answer))
+      → RefusesOnLine (5 ∷ 4 ∷ line) byReceipt s l at (heardOn s heard from accept l at)
+  -- environment strings: `env_reader::read`, `env_list::read_records`, `env_writer::write`, and what `read` is made of: `env_variables::read_variables`,
+  -- `env_delivery::deliver`, `env_delivery::hand_over`
+  pub readPayload : (p bytes numbers : List ℕ) → RefusesBoth (4 ∷ payload) bytes numbers (readInto p bytes numbers)
   pub readRecords : (p bytes : List ℕ) (list : List VariableRecord)
       → Refuses (4 ∷ payload) {L = List ℕ × List VariableRecord} (bytes, list) (readRecords p bytes list .answer .lent, readRecords p bytes list .records) (ofPayload (readRecords p bytes list .answer .answer))
   pub writePayload : (first : ℕ) (bytes numbers out : List ℕ)
       → RefusesInto (20 ∷ 27 ∷ 21 ∷ 24 ∷ 25 ∷ 3 ∷ 4 ∷ []) ofPayloadWritten out (writeInto first bytes numbers out)
+  pub readVariables : (first : ℕ) (rest bytes numbers : List ℕ) → RefusesBoth (4 ∷ payload) bytes numbers (readBehind first rest bytes numbers)
+  pub deliver : (first : ℕ) (texts records bytes numbers : List ℕ) → RefusesBoth (25 ∷ 4 ∷ []) bytes numbers (deliverRead first texts records bytes numbers)
+  pub handOver : (first : ℕ) (texts records bytes numbers : List ℕ) → RefusesBoth (4 ∷ []) bytes numbers (handOver first texts records bytes numbers)
   -- profile tables: `check`, `find`, `make_record`
   pub check : (t : List ℕ) → RefusesBy table (ofCheck (checked (tableOf t)))
   pub find : (t name : List ℕ) → RefusesBy table (ofFound (foundIn name (tableOf t)))

@@ -2,20 +2,24 @@
 -- standards we name, as our specification reads them, reading and writing alike. Sign-on is granted exactly when the named profile is enabled and either its
 -- token, of a kind it allows, gives the offered substitute under this session's two seeds, the client's not zero, or, with that seed empty or zero, a clear
 -- password gives its stored token." Each function's own promise says that it answers and leaves what the papers say; here is what holds above single functions.
--- The table of the option rules is `option_rules/specs/Table.antt`, and two ends under it are `Demand3.antt`.
+-- The order of refusals is `Orders.antt`; the table of the option rules is `option_rules/specs/Table.antt`, and two ends under it are `Demand3.antt`.
 use Rattle.telnet.specs.Theorems as Telnet
+use Rattle.option_sides.specs.Verbs.{HeardAsSaid}
+use Rattle.option_sides.specs.Session.{SetsOne}
+use Rattle.option_line.specs.Theorems.{RequestIsHeard, RequestTells, ReceiptTells, HearTells}
 use Rattle.env.specs.Theorems as Env
 use Rattle.env_delivery.specs.Theorems.{ReadIsHeld, RoomSuffices}
 use Rattle.env_writer.specs.Theorems.{WroteReadsBack}
 use Rattle.env_list.specs.Theorems.{ListsTheVariables}
-use Rattle.profile.specs.Theorems.{RecordsReadBack, TablesReadBack, TablesWrittenBack, LookupIsMembership}
+use Rattle.profile.specs.Theorems.{RecordsReadBack, TablesReadBack, TablesWrittenBack, AtMost500, ExampleRead, LookupIsMembership}
 use Rattle.profile_table.specs.Theorems.{FoundIsNamed}
 use Rattle.profile_maker.specs.Theorems.{MadeRecordsAreGood, MadeTablesRead}
-use Rattle.password_check.specs.Theorems.{OwnPasswordGives}
+use Rattle.password_check.specs.Theorems.{OwnPasswordGives, OnlyItsLengths}
 use Rattle.signon.specs.Theorems.{VerdictIsItsSentence, NoVerdictIfRefused, OnlyEnabledGranted}
-use Rattle.startup.specs.Theorems.{ResponsesAreRight}
-use Rattle.print_frame.specs.Theorems.{TooLongToSay}
+use Rattle.startup.specs.Theorems.{ResponsesAreRight, Figures}
+use Rattle.print_frame.specs.Theorems.{FrameIsItsSentence, TooLongToSay}
 use Rattle.print_ledger.specs.Theorems.{PrintCompleteReadsBack, PrintCompleteIsAFrame, PrintsAreHeardBack}
+use Rattle.claims.specs.MadeSignsOn.{MadeSignsOn}
 use Rattle.claims.specs.Sections.{DesTokenOfTheSection, DesSubstituteOfTheSection, ShaTokenOfTheSection, ShaSubstituteOfTheSection}
 
 pub record Demand2 : Type 0 where
@@ -33,6 +37,17 @@ pub record Demand2 : Type 0 where
   pub recordIsAllData : Telnet.RecordIsAllData
   -- Data written as a run and an end-of-record is read back as that record.
   pub recordReadsBack : Telnet.RecordReadsBack
+  -- OPTIONS, on the line
+  -- "On means WILL or DO and off WONT or DONT, as the side has it": what one end says of a side, the other hears of the same side,
+  pub heardAsSaid : HeardAsSaid
+  -- and a step of one side leaves the nine others as they were.
+  pub setsOne : SetsOne
+  -- "What a step sends goes last on the line from its end": a command that a request put on a line is heard there, and steps the facing side by the table.
+  pub requestIsHeard : RequestIsHeard
+  -- "Every call's successor, number and command are the table's", but for 5 and 4, which leave everything.
+  pub requestTells : RequestTells
+  pub receiptTells : ReceiptTells
+  pub hearTells : HearTells
   -- ENVIRONMENT STRINGS, both ways
   -- "The writer escapes 0 to 3 and always writes VALUE; reading it back gives the same first byte and the same kinds, names and values in order."
   pub variablesReadBack : Env.ReadsBack
@@ -55,6 +70,10 @@ pub record Demand2 : Type 0 where
   pub tablesReadBack : TablesReadBack
   -- and what is read without refusal, written, gives the bytes.
   pub tablesWrittenBack : TablesWrittenBack
+  -- "or a 501st record": a table has at most 500.
+  pub atMost500 : AtMost500
+  -- One record in bytes, with its name, marks and tokens.
+  pub exampleRead : ExampleRead
   -- "profile names not strictly ascending" are refused: so no name is there twice, and a look-up is membership;
   pub lookupIsMembership : LookupIsMembership
   -- what the look-up answers is the profile of that name, by the place where its record stands.
@@ -73,6 +92,8 @@ pub record Demand2 : Type 0 where
   -- "its token .. gives the offered substitute under this session's two seeds .., or .. a clear password gives its stored token": what the password of a
   -- name gives passes, under all seeds, and no other substitute does.
   pub ownPasswordGives : OwnPasswordGives
+  -- "8-byte DES token, 20-byte SHA-1 token": nothing passes with a token, a seed or a substitute of another length.
+  pub onlyItsLengths : OnlyItsLengths
   -- SIGN-ON: GRANT and its neighbours
   -- "Sign-on is granted exactly when the named profile is enabled and either its token, of a kind it allows, gives the offered substitute under this session's
   -- two seeds, the client's not zero, or, with that seed empty or zero, a clear password gives its stored token." The sentence of GRANT is `Granted`; each
@@ -82,14 +103,20 @@ pub record Demand2 : Type 0 where
   pub noVerdictIfRefused : NoVerdictIfRefused
   -- "0002, if VAR USER is .. not in the table; 0003, not enabled": such a profile is never granted, whatever is offered.
   pub onlyEnabledGranted : OnlyEnabledGranted
+  -- Made, stored, offered, granted: token maker, table, substitute and verdict together.
+  pub madeSignsOn : MadeSignsOn
   -- RESPONSE RECORDS
   -- "8902 for a device fault, which outranks sign-on; else the verdict's digits; else I902": the code in a response record says fault and verdict, the record
   -- has the figures' 73 bytes, and on the line it reads back as one record.
   pub responsesAreRight : ResponsesAreRight
+  -- "Response records follow section 10's figures for success and error": the two that the figures print, byte for byte.
+  pub figures : Figures
   -- PRINTER FRAMES
+  -- 40 to 45, each exactly where its sentence in the table of refusals holds and none before it does.
+  pub frameIsItsSentence : FrameIsItsSentence
   -- "The device's completion writes the fixed ten bytes 00 0A 12 A0 01 02 04 00 00 01": on the line they read back as one record,
   pub printCompleteReadsBack : PrintCompleteReadsBack
-  -- and as a frame: the client's, a print, with no flag set and nothing behind the header.
+  -- and as a frame: the client's, a print, with no flag set and nothing after the header.
   pub printCompleteIsAFrame : PrintCompleteIsAFrame
   -- "LLLL not its length" is 40: so is every frame that is too long to say its length.
   pub tooLongToSay : TooLongToSay

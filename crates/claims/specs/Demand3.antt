@@ -12,5 +12,7 @@
 -- `option_rules/specs/Table.antt`.
 use Rattle.option_ends.specs.Agreement as Agreement
 
-abbrev pub Demand3 : Type 0
-Demand3 = Agreement.Demand3
+pub record Demand3 : Type 0 where
+  pub agreed : Agreement.Demand3
+  -- and "at most twice" is no looser than it must be: it is attained by a list with every refusal in it
+  pub attained : Agreement.BoundAttained

@@ -1,7 +1,10 @@
 pub mod Refusals
 pub mod Demand1
+pub mod Demand1C
 pub mod Sections
 pub mod Demand2
 pub mod Demand3
 pub mod Worked
 pub mod Others
+pub mod MadeSignsOn
+pub mod Orders

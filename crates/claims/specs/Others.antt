@@ -1,8 +1,6 @@
 -- Definitions mean what they are named after, and what follows from them that the papers say besides.
 use Rattle.octets.specs.Same.{SameIsEqual}
 use Rattle.words.specs.Padding.{FewestZeroBits}
-use Rattle.option_sides.specs.Verbs.{HeardAsSaid}
-use Rattle.option_sides.specs.Session.{SetsOne}
 use Rattle.env.specs.Theorems.{IsBoth, AmongIsOccurs, RepeatedIsTwice}
 use Rattle.env.specs.Boundaries.{boundaries, AllRead}
 use Rattle.env_records.specs.Theorems.{FindsTheValue, AbsentWhereNone}
@@ -15,10 +13,6 @@ pub record Others : Type 0 where
   pub sameIsEqual : SameIsEqual
   -- FIPS 180-4, 5.1: the padding has the smallest number of zero bits that fills a block.
   pub fewestZeroBits : FewestZeroBits
-  -- What one end says of a side of an option, the other hears of the same side.
-  pub heardAsSaid : HeardAsSaid
-  -- A step of one side of an option leaves the nine others as they were.
-  pub setsOne : SetsOne
   -- A variable is of a kind and name where both are its own; one is among some where it occurs; 25 is a kind and name that are there twice.
   pub isBoth : IsBoth
   pub amongIsOccurs : AmongIsOccurs

@@ -6,3 +6,6 @@ pub mod Sound
 pub mod Short
 pub mod ReadingBack
 pub mod Boundary
+pub mod Longer
+pub mod Following
+pub mod Faults

@@ -1,9 +1,10 @@
--- What is read without refusal: IS or INFO and variables of good kinds, with names, at most 64, none twice. Assumes nothing.
+-- What is read without refusal: IS or INFO and variables of good kinds, with names, at most 64, none twice; and that a
+-- row is refused by 21 to 24 alone. Assumes nothing.
 use mathlib.Core.Path.{_≡_, refl}
 use mathlib.Core.Bool.{Bool, true, false, _||_}
 use mathlib.Core.List.{List, [], _∷_}
 use mathlib.Core.Logic.{⊎-elim}
-use Prim.Native.Nat.{ℕ, zero, suc, _+_, _≤_}
+use Prim.Native.Nat.{ℕ, zero, suc, _+_, _≤_, _<_}
 use native.Mathlib.Omega.{arith}
 use lib.Dec.{T, leb}
 use lib.ListN.{length}
@@ -66,10 +67,14 @@ row-kinds (suc (suc zero) ∷ b ∷ bs) = choice (λ (r : Row). Kinds (r .fields
 row-kinds (suc (suc (suc zero)) ∷ bs) = (tt, row-kinds bs)
 row-kinds (suc (suc (suc (suc b))) ∷ bs) = row-kinds bs
 
--- what is found is sound
-abbrev Finds : ℕ → Found → Type 0
+-- the numbers of the faults of a row
+abbrev pub Inner : ℕ → Type 0
+Inner n = (20 < n) × (n < 25)
+
+-- what is found is sound, or such a fault
+abbrev pub Finds : ℕ → Found → Type 0
 Finds k (variables vs) = Sound k vs
-Finds k (fault n) = Unit {0}
+Finds k (fault n) = Inner n
 
 finds-none : (k : ℕ) → k ≤ variableLimit → Sound k []
 unfolding kindsGood nameless
@@ -79,11 +84,11 @@ finds-before : (k : ℕ) (v : Variable) (found : Found) → T (isKind (v .kind))
     → Finds k (addVariable v found)
 unfolding addVariable
 finds-before k v (variables vs) g e s = sound-first k v vs (record { kind = g; full = e; behind = s })
-finds-before k v (fault n) g e s = tt
+finds-before k v (fault n) g e s = s
 
 finds-whole : (k : ℕ) (t : Text) (rest : List ℕ → Found) → ((bs : List ℕ) → Finds k (rest bs)) → Finds k (whole t rest)
 unfolding whole
-finds-whole k broken rest next = tt
+finds-whole k broken rest next = omega arith
 finds-whole k (text bs) rest next = next bs
 
 -- a variable that opens: there is room for it, and its name is not empty
@@ -92,32 +97,36 @@ finds-opened : (k : ℕ) (t : Text) (rest : List ℕ → Found)
 unfolding named
 finds-opened k t rest next =
     ⊎-elim (λ room. rw (limited-room k (whole t (named rest)) room) (finds-whole k t (named rest) (go room)))
-    (λ full. rw (limited-full k (whole t (named rest)) full) tt) (below-or-above k variableLimit)
+    (λ full. rw (limited-full k (whole t (named rest)) full) (omega arith)) (below-or-above k variableLimit)
   where
     go : suc k ≤ variableLimit → (bs : List ℕ) → Finds k (named rest bs)
-    go h [] = tt
+    go h [] = omega arith
     go h (b ∷ bs) = next b bs h
 
-finds-names : (number k : ℕ) (fs : List Field) → Kinds fs → k ≤ variableLimit → Finds k (names number k fs)
+finds-names : (number k : ℕ) (fs : List Field) → Inner number → Kinds fs → k ≤ variableLimit
+    → Finds k (names number k fs)
 unfolding names isEmpty
-finds-names number k [] g h = finds-none k h
-finds-names number k (valueField t ∷ fs) g h = tt
-finds-names number k (nameField kind t ∷ valueField u ∷ fs) g h = finds-opened k t _ λ b bs room.
-    finds-whole k u _ λ cs. finds-before k (variable kind (b ∷ bs) cs) _ (g .0) refl (finds-names _ (suc k) fs (g .1) room)
-finds-names number k (nameField kind t ∷ []) g h = finds-opened k t _ λ b bs room.
+finds-names number k [] i g h = finds-none k h
+finds-names number k (valueField t ∷ fs) i g h = i
+finds-names number k (nameField kind t ∷ valueField u ∷ fs) i g h = finds-opened k t _ λ b bs room.
+    finds-whole k u _ λ cs.
+    finds-before k (variable kind (b ∷ bs) cs) _ (g .0) refl (finds-names _ (suc k) fs (omega arith) (g .1) room)
+finds-names number k (nameField kind t ∷ []) i g h = finds-opened k t _ λ b bs room.
     finds-before k (variable kind (b ∷ bs) []) (variables []) (g .0) refl (finds-none (suc k) room)
-finds-names number k (nameField kind t ∷ nameField kind₂ u ∷ fs) g h = finds-opened k t _ λ b bs room.
-    finds-before k (variable kind (b ∷ bs) []) _ (g .0) refl (finds-names _ (suc k) (nameField kind₂ u ∷ fs) (g .1) room)
+finds-names number k (nameField kind t ∷ nameField kind₂ u ∷ fs) i g h = finds-opened k t _ λ b bs room.
+    finds-before k (variable kind (b ∷ bs) []) _ (g .0) refl
+    (finds-names _ (suc k) (nameField kind₂ u ∷ fs) (omega arith) (g .1) room)
 
 finds-unled : (t : Text) (found : Found) → Finds 0 found → Finds 0 (expectNoText t found)
 unfolding expectNoText
-finds-unled broken found s = tt
+finds-unled broken found s = omega arith
 finds-unled (text []) found s = s
-finds-unled (text (b ∷ bs)) found s = tt
+finds-unled (text (b ∷ bs)) found s = omega arith
 
-finds-variables : (bs : List ℕ) → Finds 0 (variablesOf (rowOf bs))
+pub finds-variables : (bs : List ℕ) → Finds 0 (variablesOf (rowOf bs))
 unfolding variablesOf
-finds-variables bs = finds-unled (rowOf bs .front) _ (finds-names _ 0 (rowOf bs .fields) (row-kinds bs) (omega arith))
+finds-variables bs =
+    finds-unled (rowOf bs .front) _ (finds-names _ 0 (rowOf bs .fields) (omega arith) (row-kinds bs) (omega arith))
 
 -- what is said without refusal
 pub record Says (first : ℕ) (vs : List Variable) : Type 0 where

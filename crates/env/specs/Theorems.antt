@@ -1,13 +1,13 @@
--- What is proved of the format: reading undoes writing, records hold what was recorded, and the tests of kinds and names say what is meant by
--- them. The proofs are in `proofs/ReadingBack.antt`, `proofs/Holding.antt` and `proofs/Repeats.antt`.
+-- What is proved of the format: reading undoes writing, records hold what was recorded, the tests of kinds and names say what is meant by them, and the
+-- first fault decides. The proofs are in `proofs/ReadingBack.antt`, `proofs/Holding.antt`, `proofs/Repeats.antt` and `proofs/Faults.antt`.
 use mathlib.Core.Path.{_≡_}
-use mathlib.Core.List.{List, _∷_, _++_}
-use mathlib.Core.Logic.{_↔_}
-use Prim.Native.Nat.{ℕ, _+_, _≤_}
+use mathlib.Core.List.{List, [], _∷_, _++_}
+use mathlib.Core.Logic.{_↔_, _⊎_}
+use Prim.Native.Nat.{ℕ, _+_, _≤_, _<_}
 use lib.Dec.{T}
 use lib.ListN.{length}
-use Rattle.env.specs.Variable.{Variable, is, among, repeated}
-use Rattle.env.specs.Read.{readingOf, says}
+use Rattle.env.specs.Variable.{Variable, VAR, VALUE, ESC, USERVAR, is, among, repeated}
+use Rattle.env.specs.Read.{readingOf, says, notRead}
 use Rattle.env.specs.Write.{payloadOf, kindsGood, Accepted}
 use Rattle.env.specs.Numbers.{packed, recorded, held, placed}
 use Rattle.telnet.specs.Event.{payloadLimit}
@@ -59,3 +59,30 @@ pub record Twice (vs : List Variable) : Type 0 where
 -- The test behind 25 finds a kind and name that are there twice, and nothing else.
 abbrev pub RepeatedIsTwice : Type 0
 RepeatedIsTwice = (vs : List Variable) → T (repeated vs) ↔ Twice vs
+
+-- a fault of some bytes is the fault of every payload that begins with them
+abbrev pub Stays : (p : List ℕ) (n : ℕ) → Type 0
+Stays p n = (more : List ℕ) → length (p ++ more) ≤ 1024 → readingOf (p ++ more) ≡ notRead n
+
+-- "Framing and environment faults: the first met from left to right". Only the end of a payload can be told by 20, 21 and 22 as well: an empty one, a VAR or
+-- USERVAR with nothing after it, an ESC with nothing after it.
+pub record FirstFaultDecides : Type 0 where
+  pub notIsOrInfo : (b : ℕ) (p : List ℕ) → readingOf (b ∷ p) ≡ notRead 20 → Stays (b ∷ p) 20
+  pub noVariable : (p : List ℕ) (b : ℕ) → (b ≡ VAR → ⊥) → (b ≡ USERVAR → ⊥) → readingOf (p ++ b ∷ []) ≡ notRead 21 → Stays (p ++ b ∷ []) 21
+  pub badEscape : (p : List ℕ) (b : ℕ) → (b ≡ ESC → ⊥) → readingOf (p ++ b ∷ []) ≡ notRead 22 → Stays (p ++ b ∷ []) 22
+  pub valueInValue : (p : List ℕ) → readingOf p ≡ notRead 23 → Stays p 23
+  pub tooMany : (p : List ℕ) → readingOf p ≡ notRead 24 → Stays p 24
+
+-- "25 after all those": whatever is repeated, a fault further right is told instead.
+pub record GivesWay (p : List ℕ) : Type 0 where
+  pub badEscape : readingOf (p ++ ESC ∷ 5 ∷ []) ≡ notRead 22
+  pub valueInValue : readingOf (p ++ VALUE ∷ VALUE ∷ []) ≡ notRead 23
+  -- a variable without a name, or the 65th
+  pub noVariable : (readingOf (p ++ VAR ∷ VALUE ∷ []) ≡ notRead 21) ⊎ (readingOf (p ++ VAR ∷ VALUE ∷ []) ≡ notRead 24)
+
+abbrev pub RepeatGivesWay : Type 0
+RepeatGivesWay = (p : List ℕ) → length p ≤ 1022 → readingOf p ≡ notRead 25 → GivesWay p
+
+-- "An environment reader tests 3 before 20": 3 is told exactly where a payload has more than 1,024 bytes, whatever they are.
+abbrev pub TooLongFirst : Type 0
+TooLongFirst = (p : List ℕ) → (readingOf p ≡ notRead 3) ↔ (1024 < length p)

@@ -1,1 +1,3 @@
 pub mod Numbered
+pub mod Named
+pub mod KindNames

@@ -1,6 +1,7 @@
 -- The numbers by which the kinds of events and the answers of writers cross to a caller in C.
 use mathlib.Core.Path.{_≡_}
-use Prim.Native.Nat.{ℕ}
+use mathlib.Core.Logic.{_↔_, _⊎_}
+use Prim.Native.Nat.{ℕ, _<_}
 use mathlib.Core.Bool.{Bool}
 use lib.Dec.{eqb}
 use Rattle.telnet.specs.declared.Verb.{Verb}
@@ -25,7 +26,7 @@ numbered f o = outcome (f (o .answer)) (o .lent)
 abbrev pub mark : Bool → ℕ
 mark t = if t then 1 else 0
 
--- so many bytes were written, or a refusal
+-- how many bytes were written, or a refusal
 abbrev pub wrote : ℕ → TvWritten
 wrote n = record { refusal = 0; length = n }
 
@@ -64,6 +65,12 @@ kindNamed w c o =
     if eqb w 4 then IsKind (Subnegotiation o) else
     NoKind
 
--- The numbers of a kind name it.
-abbrev pub NamedBack : Type 0
-NamedBack = (k : Kind) → kindNamed (kindNumbers k .what) (kindNumbers k .code) (kindNumbers k .option) ≡ IsKind k
+-- a number that is none of 251 to 254
+abbrev pub NoCode : ℕ → Type 0
+NoCode c = (c < 251) ⊎ (254 < c)
+
+-- Which kind numbers name: the numbers of a kind name it, and what is none of 1 to 4, or 3 with a code that is no option command, names nothing.
+pub record KindsNamed : Type 0 where
+  pub back : (k : Kind) → kindNamed (kindNumbers k .what) (kindNumbers k .code) (kindNumbers k .option) ≡ IsKind k
+  pub noVerb : (c : ℕ) → (verbNamed c ≡ NoVerb) ↔ NoCode c
+  pub noKind : (w c o : ℕ) → (kindNamed w c o ≡ NoKind) ↔ (((w < 1) ⊎ (4 < w)) ⊎ ((w ≡ 3) × NoCode c))

@@ -1,7 +1,7 @@
 // What the exported functions share: the kind of an event as three numbers, the kind that three numbers name, what a writer answers, and marks. Which number stands
 // for what is said in `specs/Numbers.antt`. The exports are in the crates `export_telnet`, `export_option` and their like.
 ghost use mathlib.Core.Path.{_≡_};
-ghost use Rattle.export.specs.Numbers.{kindNumbers, verbNamed, negotiationNamed, kindNamed, NamedBack, mark};
+ghost use Rattle.export.specs.Numbers.{kindNumbers, verbNamed, negotiationNamed, kindNamed, KindsNamed, mark};
 ghost use Rattle.telnet.specs.Event.{code};
 use telnet::Kind;
 use telnet::Verb;
@@ -33,7 +33,8 @@ pub enum NamedKind {
     Kind(Kind),
 }
 
-fn code_of(verb: Verb) -> u8
+// The code of an option command.
+pub fn code_of(verb: Verb) -> u8
     ensures { λ r. ⌜ r ≡ code verb ⌝ }
 {
     match verb {
@@ -111,7 +112,7 @@ pub fn mark(set: bool) -> u8
     if set { 1 } else { 0 }
 }
 
-// The numbers of a kind name it.
-pub fn named_back()
-    ensures { λ _. ⌜ NamedBack ⌝ }
+// Which kind numbers name.
+pub fn kinds_named()
+    ensures { λ _. ⌜ KindsNamed ⌝ }
 {}

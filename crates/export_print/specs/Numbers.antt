@@ -1,5 +1,6 @@
 -- The numbers of what a printer frame says and of what the ledger answers, and the ledger that a number names.
 use mathlib.Core.Path.{_≡_}
+use mathlib.Core.Logic.{_↔_}
 use Prim.Native.Nat.{ℕ}
 use lib.Dec.{eqb}
 use lib.ListN.{length}
@@ -81,30 +82,32 @@ ledgerNumber Holding = 1
 unfoldable pub ledgerNamed : ℕ → Ledger
 ledgerNamed n = if eqb n 1 then Holding else Idle
 
-abbrev pub took : ℕ → ℕ → ℕ → TvTaken
+abbrev pub took : (ledger refusal receipt : ℕ) → TvTaken
 took l r k = record { ledger = l; refusal = r; receipt = k }
 
--- what became of a frame, with the ledger's number
-abbrev pub receiptNumbers : ℕ → Receipt → TvTaken
-receiptNumbers l Held = took l 0 1
-receiptNumbers l Cleared = took l 0 2
-receiptNumbers l NothingToClear = took l 0 3
-receiptNumbers l (NotTaken r) = took l r 0
+-- what became of a frame, with the ledger's number; a refusal hands back the one that was given
+abbrev pub receiptNumbers : (given ledger : ℕ) → Receipt → TvTaken
+receiptNumbers given l Held = took l 0 1
+receiptNumbers given l Cleared = took l 0 2
+receiptNumbers given l NothingToClear = took l 0 3
+receiptNumbers given l (NotTaken r) = took given r 0
 
-abbrev pub takenNumbers : Taken → TvTaken
-takenNumbers t = receiptNumbers (ledgerNumber (t .ledger)) (t .receipt)
+abbrev pub takenNumbers : (given : ℕ) → Taken → TvTaken
+takenNumbers given t = receiptNumbers given (ledgerNumber (t .ledger)) (t .receipt)
 
-abbrev pub completed : ℕ → ℕ → ℕ → TvCompleted
+abbrev pub completed : (ledger refusal length : ℕ) → TvCompleted
 completed l r n = record { ledger = l; refusal = r; length = n }
 
--- whether the record was written, with the ledger's number
-abbrev pub completionNumbers : ℕ → Completion → TvCompleted
-completionNumbers l Written = completed l 0 (length printComplete)
-completionNumbers l (NotWritten r) = completed l r 0
+-- whether the record was written, with the ledger's number; a refusal hands back the one that was given
+abbrev pub completionNumbers : (given ledger : ℕ) → Completion → TvCompleted
+completionNumbers given l Written = completed l 0 (length printComplete)
+completionNumbers given l (NotWritten r) = completed given r 0
 
-abbrev pub completedNumbers : Completed → TvCompleted
-completedNumbers c = completionNumbers (ledgerNumber (c .ledger)) (c .completion)
+abbrev pub completedNumbers : (given : ℕ) → Completed → TvCompleted
+completedNumbers given c = completionNumbers given (ledgerNumber (c .ledger)) (c .completion)
 
--- The number of a ledger is read as the ledger.
-abbrev pub NamedBack : Type 0
-NamedBack = (l : Ledger) → ledgerNamed (ledgerNumber l) ≡ l
+-- Which ledger a number names: 1 a holding one, every other an idle one; and the number of a ledger names it.
+pub record LedgerNamed : Type 0 where
+  pub back : (l : Ledger) → ledgerNamed (ledgerNumber l) ≡ l
+  pub holding : (n : ℕ) → (ledgerNamed n ≡ Holding) ↔ (n ≡ 1)
+  pub idle : (n : ℕ) → (n ≡ 1 → ⊥) → ledgerNamed n ≡ Idle

@@ -1,9 +1,9 @@
 // Printer frames and the print ledger, for a caller in C. Each function answers with numbers: which number stands for what is said at the structs and in
 // `specs/Numbers.antt`. A `refusal` is 0 where there is none; else it is the refusal's number, and every other field is 0, but that the ledger is handed
-// back as it was. A slice is a pointer and a length.
+// back by the number that was given. A slice is a pointer and a length.
 ghost use mathlib.Core.Path.{_≡_};
 ghost use Rattle.export_print.specs.Numbers.{directionNumber, operationNumber, readNumbers, frameNumbers, ledgerNumber, ledgerNamed};
-ghost use Rattle.export_print.specs.Numbers.{takenNumbers, completedNumbers, NamedBack};
+ghost use Rattle.export_print.specs.Numbers.{takenNumbers, completedNumbers, LedgerNamed};
 ghost use Rattle.export.specs.Numbers.{numbered};
 ghost use Rattle.print_frame.specs.Frame.{frameOf};
 ghost use Rattle.print_ledger.specs.Ledger.{takeFrame, completeInto};
@@ -139,8 +139,9 @@ fn ledger_named(number: u8) -> Ledger
     Ledger::Idle
 }
 
-fn taken_numbers(taken: Taken) -> TvTaken
-    ensures { λ r. ⌜ r ≡ takenNumbers taken ⌝ }
+// What became of a frame; `given` is the number that the caller gave for the ledger.
+fn taken_numbers(given: u8, taken: Taken) -> TvTaken
+    ensures { λ r. ⌜ r ≡ takenNumbers given taken ⌝ }
 {
     let state = taken.ledger;
     let receipt = taken.receipt;
@@ -162,15 +163,15 @@ fn taken_numbers(taken: Taken) -> TvTaken
             receipt: 3,
         },
         Receipt::Refused(n) => TvTaken {
-            ledger,
+            ledger: given,
             refusal: n,
             receipt: 0,
         },
     }
 }
 
-fn completed_numbers(completed: Completed) -> TvCompleted
-    ensures { λ r. ⌜ r ≡ completedNumbers completed ⌝ }
+fn completed_numbers(given: u8, completed: Completed) -> TvCompleted
+    ensures { λ r. ⌜ r ≡ completedNumbers given completed ⌝ }
 {
     let state = completed.ledger;
     let completion = completed.completion;
@@ -182,16 +183,16 @@ fn completed_numbers(completed: Completed) -> TvCompleted
             length: 10,
         },
         Completion::Refused(n) => TvCompleted {
-            ledger,
+            ledger: given,
             refusal: n,
             length: 0,
         },
     }
 }
 
-// The number of a ledger is read as the ledger.
-pub fn ledger_named_back()
-    ensures { λ _. ⌜ NamedBack ⌝ }
+// Which ledger a number names.
+pub fn ledgers_named()
+    ensures { λ _. ⌜ LedgerNamed ⌝ }
 {}
 
 // What a frame says. Refused by 40 to 45.
@@ -202,19 +203,19 @@ pub extern "C" fn tv_read_frame(frame: &[u8]) -> TvFrame
     frame_numbers(print_frame::read_frame(frame))
 }
 
-// The ledger is given a frame from the line. A ledger's number above 1 reads as 0. Refused by 40 to 45, 52 and 50.
+// The ledger is given a frame from the line. A ledger's number above 1 reads as 0; a refusal hands it back as it was given. Refused by 40 to 45, 52 and 50.
 #[no_mangle]
 pub extern "C" fn tv_ledger_take(ledger: u8, frame: &[u8]) -> TvTaken
-    ensures { λ r. ⌜ r ≡ takenNumbers (takeFrame (ledgerNamed ledger) (now (frame .entry))) ⌝ }
+    ensures { λ r. ⌜ r ≡ takenNumbers ledger (takeFrame (ledgerNamed ledger) (now (frame .entry))) ⌝ }
 {
-    taken_numbers(ledger_named(ledger).take_frame(frame))
+    taken_numbers(ledger, ledger_named(ledger).take_frame(frame))
 }
 
-// The device has printed what is held: the print complete record goes to the front of `out`, and the ledger is idle. A ledger's number above 1 reads as 0.
-// Refused by 51 and 4.
+// The device has printed what is held: the print complete record goes to the front of `out`, and the ledger is idle. A ledger's number above 1 reads as 0;
+// a refusal hands it back as it was given. Refused by 51 and 4.
 #[no_mangle]
 pub extern "C" fn tv_ledger_complete(ledger: u8, out: &mut [u8]) -> TvCompleted
-    ensures { λ r. ⌜ outcome r (now (out .exit)) ≡ numbered completedNumbers (completeInto (ledgerNamed ledger) (now (out .entry))) ⌝ }
+    ensures { λ r. ⌜ outcome r (now (out .exit)) ≡ numbered (completedNumbers ledger) (completeInto (ledgerNamed ledger) (now (out .entry))) ⌝ }
 {
-    completed_numbers(ledger_named(ledger).complete(out))
+    completed_numbers(ledger, ledger_named(ledger).complete(out))
 }

@@ -1,5 +1,6 @@
 -- The numbers of the verdicts and of what is answered with them, and the verdict that a number names.
 use mathlib.Core.Path.{_≡_}
+use mathlib.Core.Logic.{_↔_}
 use Prim.Native.Nat.{ℕ}
 use lib.Dec.{eqb}
 use Rattle.signon.specs.declared.Verdict.{Verdict}
@@ -13,7 +14,7 @@ use Rattle.export.specs.declared.TvWritten.{TvWritten}
 use Rattle.export.specs.Numbers.{wrote, notWritten}
 use Rattle.octets.specs.Choice.{if_then_else_}
 
--- 0002, 0003 and 0004 by their digits, PANEL before them and GRANT behind
+-- 0002, 0003 and 0004 by their digits, PANEL before them and GRANT after them
 abbrev pub verdictNumber : Verdict → ℕ
 verdictNumber Panel = 1
 verdictNumber NotKnown = 2
@@ -38,6 +39,11 @@ abbrev pub writtenNumbers : Written → TvWritten
 writtenNumbers (Wrote n) = wrote n
 writtenNumbers (NotWritten r) = notWritten r
 
--- The number of a verdict is read as the verdict.
-abbrev pub NamedBack : Type 0
-NamedBack = (v : Verdict) → verdictNamed (verdictNumber v) ≡ v
+-- Which verdict a number names: GRANT is 5 and no other number, and a number that is none of 1, 2, 3 and 5 is 0004; and the number of a verdict names it.
+pub record VerdictNamed : Type 0 where
+  pub back : (v : Verdict) → verdictNamed (verdictNumber v) ≡ v
+  pub panel : (n : ℕ) → (verdictNamed n ≡ Panel) ↔ (n ≡ 1)
+  pub notKnown : (n : ℕ) → (verdictNamed n ≡ NotKnown) ↔ (n ≡ 2)
+  pub disabled : (n : ℕ) → (verdictNamed n ≡ Disabled) ↔ (n ≡ 3)
+  pub grant : (n : ℕ) → (verdictNamed n ≡ Grant) ↔ (n ≡ 5)
+  pub failed : (n : ℕ) → (n ≡ 1 → ⊥) → (n ≡ 2 → ⊥) → (n ≡ 3 → ⊥) → (n ≡ 5 → ⊥) → verdictNamed n ≡ Failed

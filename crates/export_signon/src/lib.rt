@@ -2,7 +2,7 @@
 // `specs/Numbers.antt`. A `refusal` is 0 where there is none; else it is the refusal's number, and every other field is 0. A slice is a pointer and a
 // length.
 ghost use mathlib.Core.Path.{_≡_};
-ghost use Rattle.export_signon.specs.Numbers.{verdictNumber, verdictNamed, answerNumbers, writtenNumbers, NamedBack};
+ghost use Rattle.export_signon.specs.Numbers.{verdictNumber, verdictNamed, answerNumbers, writtenNumbers, VerdictNamed};
 ghost use Rattle.export.specs.Numbers.{numbered};
 ghost use Rattle.signon.specs.Verdict.{answerOf};
 ghost use Rattle.startup_record.specs.Promise.{respondInto};
@@ -70,9 +70,9 @@ fn written_numbers(answer: Written) -> TvWritten
     }
 }
 
-// The number of a verdict is read as the verdict.
-pub fn verdict_named_back()
-    ensures { λ _. ⌜ NamedBack ⌝ }
+// Which verdict a number names.
+pub fn verdicts_named()
+    ensures { λ _. ⌜ VerdictNamed ⌝ }
 {}
 
 // The verdict on a payload of NEW-ENVIRON, by the server seed and the profile table. Refused by 35, 30 to 32, 3 and 20 to 25.

@@ -13,6 +13,6 @@ same [] (c ∷ cs) = false
 same (b ∷ bs) [] = false
 same (b ∷ bs) (c ∷ cs) = eqb b c && same bs cs
 
--- The test says yes exactly where the two are equal. The proof is in `proofs/Same.antt`.
+-- The test says yes exactly where the two are equal. The proof is in `proofs/Equality.antt`.
 abbrev pub SameIsEqual : Type 0
 SameIsEqual = (a b : List ℕ) → T (same a b) ↔ (a ≡ b)

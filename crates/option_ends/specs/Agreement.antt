@@ -1,18 +1,18 @@
--- Demand 3, clause by clause, in the owner's words: what holds of two ends under our option rules after every list of calls. The proof is in
--- `proofs/Agreement.antt`.
+-- Demand 3, clause by clause, in the owner's words: what holds of two ends under our option rules after every list of calls; and that its bound
+-- is attained. The proofs are in `proofs/Agreement.antt` and `proofs/Attained.antt`.
 use mathlib.Core.Path.{_≡_}
 use mathlib.Core.Logic.{_⊎_}
-use mathlib.Core.Bool.{Bool}
+use mathlib.Core.Bool.{Bool, true}
 use mathlib.Core.List.{List, [], _∷_, _++_}
 use Prim.Native.Nat.{ℕ, _*_, _≤_}
 use lib.Dec.{T, ltb}
 use lib.ListN.{length}
-use Rattle.option_rules.specs.declared.Command.the-variants.{On as on}
+use Rattle.option_rules.specs.declared.Command.the-variants.{On as on, Off as off}
 use Rattle.option_rules.specs.declared.Side.{Side}
 use Rattle.option_rules.specs.declared.Side.the-variants.{On, Off}
 use Rattle.option_rules.specs.Table.{Row, carried, rulesOf}
-use Rattle.option_ends.specs.Ends.{End, other, Call, _does_, request, Ends, at, fresh, after, receiptsOnly}
-use Rattle.option_ends.specs.Ends.{countWhere, sends, granted, receipt, acceptance}
+use Rattle.option_ends.specs.Ends.{End, near, far, other, Call, _does_, request, receive, Ends, at, fresh, callResult, move, after, receiptsOnly}
+use Rattle.option_ends.specs.Ends.{numberTold, countWhere, sends, granted, receipt, acceptance}
 use Rattle.octets.specs.Choice.{if_then_else_}
 
 -- nothing is under way
@@ -70,3 +70,25 @@ pub record Agreed (rules : Side → Row) (calls : List Call) : Type 0 where
 -- "Take one carried option on one side and two ends under our option rules, both fresh, with nothing under way."
 abbrev pub Demand3 : Type 0
 Demand3 = (option : ℕ) → T (carried option) → (calls : List Call) → Agreed (rulesOf option) calls
+
+-- A list with every refusal in it: near requests off (11), on, on again (12), off, which is queued, and off again (13); then what is under way is received,
+-- each time accepting.
+abbrev pub everyRefusal : List Call
+everyRefusal =
+    (near does request off) ∷ (near does request on) ∷ (near does request on) ∷ (near does request off) ∷ (near does request off)
+    ∷ (far does receive true) ∷ (near does receive true) ∷ (far does receive true) ∷ (near does receive true) ∷ []
+
+-- the number that each call tells, one after the other
+unfoldable pub numbersTold : (Side → Row) → Ends → List Call → List ℕ
+numbersTold rules t [] = []
+numbersTold rules t ((e does a) ∷ ks) = numberTold (callResult rules (at t e) a) ∷ numbersTold rules (move rules t (e does a)) ks
+
+-- "at most twice" is attained, with refused requests in the list: four commands are sent for two requests that are not refused
+pub record Attained (rules : Side → Row) : Type 0 where
+  pub told : numbersTold rules fresh everyRefusal ≡ 11 ∷ 0 ∷ 12 ∷ 0 ∷ 13 ∷ 0 ∷ 0 ∷ 0 ∷ 0 ∷ []
+  pub sent : commandsSent rules everyRefusal ≡ 4
+  pub notRefused : requestsNotRefused rules everyRefusal ≡ 2
+  pub quiet : Quiet (after rules fresh everyRefusal)
+
+abbrev pub BoundAttained : Type 0
+BoundAttained = (option : ℕ) → T (carried option) → Attained (rulesOf option)

@@ -96,6 +96,12 @@ countWhere such rules t ((e does a) ∷ ks) =
     let n = countWhere such rules (move rules t (e does a)) ks in
     if such e (callResult rules (at t e) a) then suc n else n
 
+-- the number that a call tells; 0 where it is no call
+unfoldable pub numberTold : CallResult → ℕ
+numberTold nothing = 0
+numberTold (requested s) = s .number
+numberTold (received accepting rest s) = s .number
+
 -- The tests of what is counted.
 
 unfoldable pub isCommand : Sending → Bool

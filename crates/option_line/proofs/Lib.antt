@@ -1,1 +1,4 @@
 pub mod Sending
+pub mod Places
+pub mod Telling
+pub mod Hearing

@@ -1,12 +1,10 @@
 // Option commands put on the line in the call that steps the sides: where a command finds no room, no step is taken. What is right is said in
 // `specs/Line.antt`; the rules are in the crates `option_rules` and `option_sides`.
 ghost use mathlib.Core.Path.{_≡_};
-ghost use lib.ListN.{length};
 ghost use Rattle.octets.specs.Lent.{outcome};
-ghost use Rattle.octets.specs.Promise.{putAt};
 ghost use Rattle.telnet.specs.Event.{negotiation};
 ghost use Rattle.telnet.specs.Write.{written};
-ghost use Rattle.option_line.specs.Line.{commandBytes, sent, sentBy, receivedOn, requestedOn, heardEvent, heardOn};
+ghost use Rattle.option_line.specs.Line.{sent, sentBy, receivedOn, requestedOn, heardEvent, heardOn};
 use option_rules::Command;
 use option_sides::Answered;
 use option_sides::Outgoing;
@@ -16,7 +14,7 @@ use telnet::Kind;
 use telnet::Verb;
 use telnet_reader::Answer;
 
-// The sides afterwards; a number that is 0, a note or a refusal; and the place behind what was put on the line.
+// The sides afterwards; a number that is 0, a note or a refusal; and the place after what was put on the line.
 pub struct Sent {
     pub sides: Sides,
     pub number: u8,
@@ -42,31 +40,6 @@ fn command_bytes(verb: Verb, option: u8) -> [u8; 3]
     bytes
 }
 
-// The rules send option commands only; any other event is no command and has no bytes here.
-fn command_length(kind: Kind) -> usize
-    ensures { λ r. ⌜ r ≡ length (commandBytes kind) ⌝ }
-{
-    match kind {
-        Kind::Negotiation(_, _) => 3,
-        Kind::Data => 0,
-        Kind::Command(_) => 0,
-        Kind::Subnegotiation(_) => 0,
-    }
-}
-
-fn put_command(kind: Kind, line: &mut [u8], at: usize) -> bool
-    ensures { λ r. ⌜ outcome r (now (line .exit)) ≡ putAt (commandBytes kind) (now (line .entry)) at ⌝ }
-{
-    match kind {
-        Kind::Negotiation(verb, option) => {
-            return octets::put(&command_bytes(verb, option), line, at);
-        }
-        Kind::Data => return octets::put(b"", line, at),
-        Kind::Command(_) => return octets::put(b"", line, at),
-        Kind::Subnegotiation(_) => return octets::put(b"", line, at),
-    }
-}
-
 // What the rules answered, carried out: `sides` is what they were given.
 fn send(sides: Sides, answered: Answered, line: &mut [u8], at: usize) -> Sent
     ensures { λ r. ⌜ outcome r (now (line .exit)) ≡ sentBy sides answered (now (line .entry)) at ⌝ }
@@ -82,12 +55,12 @@ fn send(sides: Sides, answered: Answered, line: &mut [u8], at: usize) -> Sent
                 place: at,
             };
         }
-        Outgoing::Event(kind) => {
-            if put_command(kind, line, at) {
+        Outgoing::Command(verb, option) => {
+            if octets::put(&command_bytes(verb, option), line, at) {
                 return Sent {
                     sides: stepped,
                     number,
-                    place: at + command_length(kind),
+                    place: at + 3,
                 };
             }
             return Sent {
@@ -100,7 +73,7 @@ fn send(sides: Sides, answered: Answered, line: &mut [u8], at: usize) -> Sent
 }
 
 // WILL, WONT, DO or DONT was received, with its option byte; on is accepted or declined where that is open. The answer goes on the line at a
-// place; where it does not fit, the refusal is 4, and sides and line are as they were.
+// place. A place past the end is 5, and an answer that does not fit 4: then sides and line are as they were.
 pub fn receive(
     sides: Sides,
     verb: Verb,
@@ -113,6 +86,9 @@ pub fn receive(
         outcome r (now (line .exit)) ≡ receivedOn sides verb option accept (now (line .entry)) at
         ⌝ }
 {
+    if line.len() < at {
+        return after(sides, refusal::PAST_THE_END, at);
+    }
     let answered = sides.receive(verb, option, accept);
     send(sides, answered, line, at)
 }
@@ -130,6 +106,9 @@ pub fn request(
         outcome r (now (line .exit)) ≡ requestedOn sides whose option command (now (line .entry)) at
         ⌝ }
 {
+    if line.len() < at {
+        return after(sides, refusal::PAST_THE_END, at);
+    }
     let answered = sides.request(whose, option, command);
     send(sides, answered, line, at)
 }
@@ -150,8 +129,8 @@ fn hear_event(sides: Sides, kind: Kind, accept: bool, line: &mut [u8], at: usize
     }
 }
 
-// This end hears what stands at a place of the other's line, and answers it on its own line if it is an option command. What cannot be read is refused
-// by the reader's number.
+// This end hears what stands at a place of the other's line, and answers it on its own line if it is an option command. A place past the end of
+// either line is 5; what cannot be read is refused by the reader's number.
 pub fn hear(
     sides: Sides,
     heard: &[u8],
@@ -164,6 +143,9 @@ pub fn hear(
         outcome r (now (line .exit)) ≡ heardOn sides (now (heard .entry)) from accept (now (line .entry)) at
         ⌝ }
 {
+    if line.len() < at {
+        return after(sides, refusal::PAST_THE_END, at);
+    }
     match telnet_reader::look(heard, from) {
         Answer::Found {
             kind,

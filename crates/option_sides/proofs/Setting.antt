@@ -1,6 +1,6 @@
 -- Setting one of the ten sides sets that one alone (`sets-one`, the statement `Session.SetsOne`), and what one end says of a side the other
 -- hears of it (`heard-as-said`, `Verbs.HeardAsSaid`). Assumes nothing.
-use mathlib.Core.Path.{_≡_, refl, sym, _∙_}
+use mathlib.Core.Path.{_≡_, refl, sym, ap, _∙_}
 use Prim.Native.Nat.{ℕ}
 use mathlib.Core.Bool.{Bool, true, false, not}
 use borrow.Author.Tests.{eqb-true, eqb-false, ne-eqb}
@@ -86,3 +86,15 @@ sets-one s w o x =
       elsewhere = λ v p d. elsewhere s w o x v p (eqb p o) refl d;
       untouched = λ c. none-set s o (inPair (pairAt s o) w x) c;
     }
+
+-- a side set to what it is
+own-pair : (s : Sides) (o : ℕ) → withPair s o (pairAt s o) ≡ s
+unfolding withPair pairAt choose
+own-pair s o = by-option (λ (u : Sides). u ≡ s) o (λ e. rw e) (λ e. rw e) (λ e. rw e) (λ e. rw e) (λ e. rw e) (λ _. refl)
+
+own-in : (p : Pair) (w : Whose) → inPair p w (ofPair p w) ≡ p
+own-in p Ours = refl
+own-in p Other = refl
+
+pub own-side : (s : Sides) (w : Whose) (o : ℕ) → withSide s w o (sideAt s w o) ≡ s
+own-side s w o = ap (withPair s o) (own-in (pairAt s o) w) ∙ own-pair s o

@@ -15,7 +15,7 @@ use Rattle.option_sides.specs.declared.Pair.{Pair}
 use Rattle.option_sides.specs.declared.Sides.{Sides}
 use Rattle.option_sides.specs.declared.Answered.{Answered}
 use Rattle.option_rules.specs.Table.{choose, carried, rulesOf, onReceive, onRequest}
-use Rattle.option_sides.specs.Verbs.{toldBy, eventFor}
+use Rattle.option_sides.specs.Verbs.{toldBy, commandFor}
 
 abbrev pub pair : Side → Side → Pair
 pair s t = record { ours = s; other = t }
@@ -60,7 +60,7 @@ withSide s w o x = withPair s o (inPair (pairAt s o) w x)
 
 -- what a step of one side gives the session
 abbrev pub answeredBy : Sides → Whose → ℕ → Step → Answered
-answeredBy s w o d = record { sides = withSide s w o (d .side); number = d .number; writes = eventFor w o (d .sends) }
+answeredBy s w o d = record { sides = withSide s w o (d .side); number = d .number; writes = commandFor w o (d .sends) }
 
 abbrev pub received : Sides → Verb → ℕ → Bool → Answered
 received s v o accept = let w = toldBy v .whose in answeredBy s w o (onReceive (rulesOf o) (sideAt s w o) accept (toldBy v .command))

@@ -4,7 +4,6 @@ use mathlib.Core.Path.{_≡_}
 use Prim.Native.Nat.{ℕ}
 use Rattle.telnet.specs.declared.Verb.{Verb}
 use Rattle.telnet.specs.declared.Verb.the-variants.{Will, Wont, Do, Dont}
-use Rattle.telnet.specs.declared.Kind.the-variants.{Negotiation}
 use Rattle.option_rules.specs.declared.Command.{Command}
 use Rattle.option_rules.specs.declared.Command.the-variants.{On as on, Off as off}
 use Rattle.option_sides.specs.declared.Whose.{Whose}
@@ -13,7 +12,7 @@ use Rattle.option_sides.specs.declared.Told.{Told}
 use Rattle.option_rules.specs.declared.Sending.{Sending}
 use Rattle.option_rules.specs.declared.Sending.the-variants.{Nothing, Command as Sends}
 use Rattle.option_sides.specs.declared.Outgoing.{Outgoing}
-use Rattle.option_sides.specs.declared.Outgoing.the-variants.{Nothing as NoEvent, Event}
+use Rattle.option_sides.specs.declared.Outgoing.the-variants.{Nothing as NoCommand, Command as OptionCommand}
 
 abbrev pub told : Whose → Command → Told
 told w c = record { whose = w; command = c }
@@ -32,10 +31,10 @@ verbFor Ours off = Wont
 verbFor Other on = Do
 verbFor Other off = Dont
 
--- the event that is to be written for what a side sends
-abbrev pub eventFor : Whose → ℕ → Sending → Outgoing
-eventFor w option Nothing = NoEvent
-eventFor w option (Sends c) = Event (Negotiation (verbFor w c) option)
+-- the option command that is to be written for what a side sends
+abbrev pub commandFor : Whose → ℕ → Sending → Outgoing
+commandFor w option Nothing = NoCommand
+commandFor w option (Sends c) = OptionCommand (verbFor w c) option
 
 -- one side, as the other end sees it
 abbrev pub facing : Whose → Whose

@@ -5,8 +5,8 @@ mod verbs;
 
 use option_rules::Command;
 use option_rules::Side;
-use telnet::Kind;
-pub use verbs::event_for;
+use telnet::Verb;
+pub use verbs::command_for;
 pub use verbs::told_by;
 pub use verbs::verb_for;
 
@@ -22,10 +22,10 @@ pub struct Told {
     pub command: Command,
 }
 
-// The event that is to be written, if any.
+// The option command that is to be written, if any, with its option byte.
 pub enum Outgoing {
     Nothing,
-    Event(Kind),
+    Command(Verb, u8),
 }
 
 // The two sides of one option.

@@ -96,7 +96,7 @@ impl Sides {
         Answered {
             sides: self.with(option, pair),
             number: step.number,
-            writes: verbs::event_for(whose, option, sends),
+            writes: verbs::command_for(whose, option, sends),
         }
     }
 

@@ -1,12 +1,11 @@
 // "On" and "off" as Telnet's four option commands.
 ghost use mathlib.Core.Path.{_≡_};
-ghost use Rattle.option_sides.specs.Verbs.{toldBy, verbFor, eventFor};
+ghost use Rattle.option_sides.specs.Verbs.{toldBy, verbFor, commandFor};
 use crate::Outgoing;
 use crate::Told;
 use crate::Whose;
 use option_rules::Command;
 use option_rules::Sending;
-use telnet::Kind;
 use telnet::Verb;
 
 // What a command that was received says, and of which side.
@@ -49,14 +48,12 @@ pub fn verb_for(whose: Whose, command: Command) -> Verb
     }
 }
 
-// The event that carries what a side sends.
-pub fn event_for(whose: Whose, option: u8, sends: Sending) -> Outgoing
-    ensures { λ r. ⌜ r ≡ eventFor whose option sends ⌝ }
+// The option command that carries what a side sends.
+pub fn command_for(whose: Whose, option: u8, sends: Sending) -> Outgoing
+    ensures { λ r. ⌜ r ≡ commandFor whose option sends ⌝ }
 {
     match sends {
         Sending::Nothing => Outgoing::Nothing,
-        Sending::Command(command) => {
-            Outgoing::Event(Kind::Negotiation(verb_for(whose, command), option))
-        }
+        Sending::Command(command) => Outgoing::Command(verb_for(whose, command), option),
     }
 }

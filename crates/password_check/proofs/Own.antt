@@ -1,12 +1,13 @@
--- What a name's own password gives passes, and no other substitute does (`Theorems.OwnPasswordGives`). Assumes nothing.
-use mathlib.Core.Path.{_≡_, sym, _∙_}
-use mathlib.Core.Bool.{true, _&&_, and-eq-true-iff}
+-- What a name's own password gives passes, and no other substitute does (`Theorems.OwnPasswordGives`); and nothing
+-- passes with a token, a seed or a substitute of another length (`Theorems.OnlyItsLengths`). Assumes nothing.
+use mathlib.Core.Path.{_≡_, sym, ap, _∙_}
+use mathlib.Core.Bool.{Bool, true, _&&_, and-eq-true-iff}
 use mathlib.Core.List.{List}
 use mathlib.Core.Logic.{_↔_}
 use Prim.Native.Nat.{ℕ, _<_, _^_}
 use native.Mathlib.Nat.{mod-eq-of-lt}
 use denote.Floats.{passes, is-true}
-use borrow.Author.Tests.{eq-eqb}
+use borrow.Author.Tests.{eq-eqb, eqb-true}
 use lib.Bits.{xor-lt}
 use lib.Dec.{T, eqb, ltb}
 use lib.ListN.{length}
@@ -24,7 +25,7 @@ use Rattle.sha1.proofs.Digest.{length-sha1}
 use Rattle.password_des.specs.Des as Des
 use Rattle.password_sha.specs.Sha as Sha
 use Rattle.password_check.specs.Gives.{seedLength, desLength, shaLength, areSeeds, givesClear, givesDes, givesSha}
-use Rattle.password_check.specs.Theorems.{OwnGives, OwnPasswordGives}
+use Rattle.password_check.specs.Theorems.{OwnGives, OwnPasswordGives, OnlyItsLengths}
 
 -- a token has eight bytes, or twenty
 output-lt : (Ks : List (List ℕ)) (x : ℕ) → output Ks x < 2 ^ 64
@@ -40,7 +41,7 @@ unfolding Sha.PW-token
 length-token name password = length-sha1 _
 
 -- its eight bytes are the token again
-number-token : (PW ID : List ℕ) → number (bytes 8 (Des.PW-TOKEN PW ID)) ≡ Des.PW-TOKEN PW ID
+pub number-token : (PW ID : List ℕ) → number (bytes 8 (Des.PW-TOKEN PW ID)) ≡ Des.PW-TOKEN PW ID
 number-token PW ID = number-bytes 8 (Des.PW-TOKEN PW ID) ∙ mod-eq-of-lt (token-lt PW ID)
 
 -- the comparison says yes exactly where the two are equal
@@ -73,3 +74,36 @@ own-password-gives name password good =
           rw named (λ e. (both .0 e .0, equal .0 (passes compared (both .0 e .1))), λ h. both .1 (h .0, is-true compared (equal .1 (h .1))));
       itself = λ h. rw (named, is-true (Sha.isPassword password) h) (is-true (same token token) (same-refl token));
     }
+
+-- what the tests and the comparison let pass, where the substitute has m bytes
+lengths : (n m : ℕ) (stored server client substitute offered : List ℕ) (named : Bool) → length substitute ≡ m
+    → (eqb (length stored) n && (areSeeds server client && (named && same substitute offered))) ≡ true
+    → (length stored ≡ n) × ((length server ≡ seedLength) × ((length client ≡ seedLength) × (length offered ≡ m)))
+lengths n m stored server client substitute offered named long e =
+    let tested = and-eq-true-iff (eqb (length stored) n) _ .0 e in
+    let after = and-eq-true-iff (areSeeds server client) _ .0 (tested .1) in
+    let seeds = and-eq-true-iff (eqb (length server) seedLength) (eqb (length client) seedLength) .0 (after .0) in
+    let compared = and-eq-true-iff named (same substitute offered) .0 (after .1) .1 in
+    let stored-long = eqb-true (length stored) n (tested .0) in
+    let server-long = eqb-true (length server) seedLength (seeds .0) in
+    let client-long = eqb-true (length client) seedLength (seeds .1) in
+    (stored-long, (server-long, (client-long, ap length (equal-exactly substitute offered .0 compared) ∙ long)))
+
+length-substitute : (token server client name : List ℕ) → length (Sha.PW-SUB token server client name) ≡ shaLength
+unfolding Sha.PW-SUB
+length-substitute token server client name = length-sha1 _
+
+pub only-its-lengths : OnlyItsLengths
+unfolding givesDes givesSha givesClear
+only-its-lengths = record {
+  des = λ stored name server client offered e.
+      lengths desLength desLength stored server client _ offered (isName profileLimit name) (length-bytes 8 _) e;
+  sha = λ stored name server client offered e.
+      let long = length-substitute stored server client name in
+      lengths shaLength shaLength stored server client _ offered (isName profileLimit name) long e;
+  clear = λ name password stored e.
+      let token = Sha.PW-token name password in
+      let good = and-eq-true-iff (isName profileLimit name) _ .0 e .1 in
+      let compared = and-eq-true-iff (Sha.isPassword password) (same token stored) .0 good .1 in
+      ap length (equal-exactly token stored .0 compared) ∙ length-token name password;
+}

@@ -1,5 +1,5 @@
 -- What is proved of the three tests: the substitutes that a name's own password gives pass, and no others; a clear password passes exactly where its token is
--- the stored one. The proof is in `proofs/Own.antt`.
+-- the stored one; and nothing passes with a token, a seed or a substitute of another length. The proofs are in `proofs/Own.antt`.
 use mathlib.Core.Path.{_≡_}
 use mathlib.Core.Bool.{true}
 use mathlib.Core.List.{List}
@@ -37,3 +37,11 @@ pub record OwnGives (name password : List ℕ) : Type 0 where
 -- "its token .. gives the offered substitute under this session's two seeds .., or .. a clear password gives its stored token": for every good name.
 abbrev pub OwnPasswordGives : Type 0
 OwnPasswordGives = (name password : List ℕ) → T (isName profileLimit name) → OwnGives name password
+
+-- What passes has its own length, and so have the stored token and both seeds: the eight or twenty bytes of "8-byte DES token, 20-byte SHA-1 token", eight of a seed.
+pub record OnlyItsLengths : Type 0 where
+  pub des : (stored name server client offered : List ℕ) → givesDes stored name server client offered ≡ true
+      → (length stored ≡ 8) × ((length server ≡ 8) × ((length client ≡ 8) × (length offered ≡ 8)))
+  pub sha : (stored name server client offered : List ℕ) → givesSha stored name server client offered ≡ true
+      → (length stored ≡ 20) × ((length server ≡ 8) × ((length client ≡ 8) × (length offered ≡ 20)))
+  pub clear : (name password stored : List ℕ) → givesClear name password stored ≡ true → length stored ≡ 20

@@ -1,6 +1,6 @@
 -- DES password substitutes: RFC 4777, section 5.1, in its own names (with - for _) and the order of its steps. Passwords and user
 -- identifiers are lists of EBCDIC bytes, raised; a block of eight bytes is one number, its first byte the highest, as in the crate `des`,
--- which has the cipher and steps 2 and 3.
+-- which has the cipher; steps 2 and 3 are in `des_schedule`.
 use Prim.Native.Nat.{ℕ, _+_, _-_, _*_, _/_, _%_, _^_}
 use mathlib.Core.List.{List, [], _∷_, map}
 use lib.Bits.{bitXor}

@@ -5,23 +5,27 @@ use Rattle.octets.specs.Ascii.{ascii}
 use Rattle.telnet.specs.Event.{Event, subnegotiation}
 use Rattle.option_rules.specs.Table.{newEnviron}
 use Rattle.env.specs.Variable.{IS, VAR, USERVAR, Variable, variable}
-use Rattle.env.specs.Write.{payloadOf}
+use Rattle.env.specs.Write.{escaped, payloadOf}
 use Rattle.play.specs.Seed.{serverSeed}
 
 -- SEND (RFC 1572, section 2)
 abbrev pub SEND : ℕ
 SEND = 1
 
--- "IAC SB NEW-ENVIRON SEND USERVAR IBMRSEED xxxxxxxx VAR USERVAR IAC SE" (RFC 4777, section 12): the server's seed, and a request for all variables of both kinds
+-- "IAC SB NEW-ENVIRON SEND USERVAR IBMRSEED xxxxxxxx VAR USERVAR IAC SE" (RFC 4777, section 12): the server's seed, and a request for all variables of both
+-- kinds. The seed is part of the name, so an ESC stands before each of its bytes that is a code (RFC 1572, section 2).
+abbrev pub request : List ℕ
+request = SEND ∷ USERVAR ∷ (ascii "IBMRSEED" ++ escaped serverSeed ++ VAR ∷ USERVAR ∷ [])
+
 abbrev pub asked : Event
-asked = subnegotiation newEnviron (SEND ∷ USERVAR ∷ (ascii "IBMRSEED" ++ serverSeed ++ VAR ∷ USERVAR ∷ []))
+asked = subnegotiation newEnviron request
 
 -- the user, the printer's own seed, the password substitute under both seeds, and the device
 abbrev pub variables : List Variable
 variables =
     variable VAR (ascii "USER") (ascii "USER123")
     ∷ variable USERVAR (ascii "IBMRSEED") (0x08 ∷ 0xBE ∷ 0xF6 ∷ 0x62 ∷ 0xD8 ∷ 0x51 ∷ 0xF4 ∷ 0xB1 ∷ [])
-    ∷ variable USERVAR (ascii "IBMSUBSPW") (0x5A ∷ 0x58 ∷ 0xBD ∷ 0x50 ∷ 0xE4 ∷ 0xDD ∷ 0x9B ∷ 0x5F ∷ [])
+    ∷ variable USERVAR (ascii "IBMSUBSPW") (0xA3 ∷ 0x2E ∷ 0x34 ∷ 0xA4 ∷ 0x64 ∷ 0x28 ∷ 0x4A ∷ 0x94 ∷ [])
     ∷ variable USERVAR (ascii "DEVNAME") (ascii "PCPRINTER")
     ∷ []
 

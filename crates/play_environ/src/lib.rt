@@ -3,18 +3,35 @@
 ghost use mathlib.Core.Path.{_≡_};
 ghost use Rattle.octets.specs.Lent.{outcome};
 ghost use Rattle.show_event.specs.Sent.{sentAt};
-ghost use Rattle.play_environ.specs.Environment.{asked, told, environment};
+ghost use Rattle.play_environ.specs.Environment.{request, asked, told, environment};
 use show_event::Sender;
 use telnet::Kind;
 
-// The host asks for all variables, and gives its seed with the name of the printer's. The answer is the place behind it.
+// The codes of environment strings: ESC goes before each byte from VAR to USERVAR in a name or a value.
+const VAR: u8 = 0;
+
+const ESC: u8 = 2;
+
+const USERVAR: u8 = 3;
+
+// The request for all variables, with the server's seed after the name IBMRSEED. A seed is random: without its ESCs one of nine would end the name.
+fn send_request() -> [u8; 24]
+    ensures { λ r. ⌜ r ≡ request ⌝ }
+{
+    let seed = b"\x00\x4C\x01\x19\x02\xFF\x03\xB2";
+    let mut payload = *b"\x01\x03IBMRSEED............\x00\x03";
+    octets_marked::put_marked(seed, ESC, VAR, USERVAR, &mut payload, 10);
+    payload
+}
+
+// The host asks for all variables, and gives its seed with the name of the printer's. The answer is the place after it.
 pub fn ask(down: &mut [u8], at: usize) -> usize
     ensures { λ r. ⌜ outcome r (now (down .exit)) ≡ sentAt asked (now (down .entry)) at ⌝ }
 {
     let end = show_event::send_event(
         Sender::Host,
         Kind::Subnegotiation(39),
-        b"\x01\x03IBMRSEED\x7D\x4C\x23\x19\xF2\x80\x04\xB2\x00\x03",
+        &send_request(),
         down,
         at,
     );
@@ -27,7 +44,7 @@ fn payload() -> [u8; 69]
     ensures { λ r. ⌜ r ≡ environment ⌝ }
 {
     let bytes =
-        b"USERUSER123IBMRSEED\x08\xBE\xF6\x62\xD8\x51\xF4\xB1IBMSUBSPW\x5A\x58\xBD\x50\xE4\xDD\x9B\x5FDEVNAMEPCPRINTER";
+        b"USERUSER123IBMRSEED\x08\xBE\xF6\x62\xD8\x51\xF4\xB1IBMSUBSPW\xA3\x2E\x34\xA4\x64\x28\x4A\x94DEVNAMEPCPRINTER";
     let places = [
         0usize,
         0,
@@ -55,7 +72,7 @@ fn payload() -> [u8; 69]
     written
 }
 
-// The printer tells its environment. The answer is the place behind it.
+// The printer tells its environment. The answer is the place after it.
 pub fn tell(up: &mut [u8], at: usize) -> usize
     ensures { λ r. ⌜ outcome r (now (up .exit)) ≡ sentAt told (now (up .entry)) at ⌝ }
 {

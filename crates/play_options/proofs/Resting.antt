@@ -13,7 +13,7 @@ use Rattle.option_rules.specs.declared.Side.the-variants.{On, Off, WantOn}
 use Rattle.option_rules.specs.Table.{choose, carried, rulesOf}
 use Rattle.option_sides.specs.Session.{pair, bothOff, sides, allOff, pairAt, withPair}
 use Rattle.option_line.specs.declared.Sent.{Sent}
-use Rattle.option_line.specs.Line.{sent, sentWith, sentBy, heardOn}
+use Rattle.option_line.specs.Line.{sent, sentBy, unlessPast, receivedOn, requestedOn, heardOn}
 use Rattle.play_options.specs.declared.Commands.{Commands}
 use Rattle.play_options.specs.Negotiated.{requests, answers as given, exchanged}
 use Rattle.play_options.specs.near.Turns.{turns, askedAll, heardAll, allOn}
@@ -23,7 +23,7 @@ abbrev pub asking : Sent
 asking = sent (sides (pair WantOn WantOn) bothOff (pair Off WantOn) (pair WantOn WantOn) (pair Off WantOn)) 0 18
 
 pub all-asked : askedAll (replicate 18 0) ≡ outcome asking (writtenAll requests)
-unfolding turns sentBy sentWith choose carried rulesOf pairAt withPair written writtenAll overwrite
+unfolding turns requestedOn unlessPast sentBy choose carried rulesOf pairAt withPair written writtenAll overwrite
 all-asked = refl
 
 -- the printer's sides behind its answers
@@ -31,7 +31,7 @@ abbrev pub answering : Sent
 answering = sent (sides (pair On On) bothOff (pair On Off) (pair On On) (pair On Off)) 0 18
 
 pub all-answered : heardAll (sent allOff 0 0) (writtenAll requests) (replicate 18 0) ≡ outcome answering (writtenAll given)
-unfolding turns heardOn lookAt answered eventOf runOr undoubled afterIac lead afterLead afterVerb sentBy sentWith choose carried rulesOf pairAt withPair written writtenAll overwrite
+unfolding turns heardOn lookAt answered eventOf runOr undoubled afterIac lead afterLead afterVerb receivedOn unlessPast sentBy choose carried rulesOf pairAt withPair written writtenAll overwrite
 all-answered = refl
 
 -- the host hears them all and has nothing to answer
@@ -39,7 +39,7 @@ abbrev pub resting : Sent
 resting = sent (sides (pair On On) bothOff (pair Off On) (pair On On) (pair Off On)) 0 18
 
 pub all-heard : heardAll asking (writtenAll given) (writtenAll requests) ≡ outcome resting (writtenAll requests)
-unfolding turns heardOn lookAt answered eventOf runOr undoubled afterIac lead afterLead afterVerb sentBy sentWith choose carried rulesOf pairAt withPair written writtenAll overwrite
+unfolding turns heardOn lookAt answered eventOf runOr undoubled afterIac lead afterLead afterVerb receivedOn unlessPast sentBy choose carried rulesOf pairAt withPair written writtenAll overwrite
 all-heard = refl
 
 pub all-rest : allOn 6 0 (resting .sides) ≡ true

@@ -50,7 +50,7 @@ fn length_of(answer: telnet_reader::Answer) -> usize
 fn answer_to(table: &[u8], payload: &[u8]) -> Answer
     ensures { λ r. ⌜ r ≡ answerOf serverSeed (now (table .entry)) (now (payload .entry)) ⌝ }
 {
-    signon_verdict::verdict(b"\x7D\x4C\x23\x19\xF2\x80\x04\xB2", table, payload)
+    signon_verdict::verdict(b"\x00\x4C\x01\x19\x02\xFF\x03\xB2", table, payload)
 }
 
 // The host's verdict on the payload at a place of the printer's line.

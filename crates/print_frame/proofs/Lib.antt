@@ -1,2 +1,3 @@
 pub mod Limits
 pub mod Masks
+pub mod Sentences

@@ -49,9 +49,9 @@ pair-bytes a b g h (suc zero) = h
 pair-bytes a b g h (suc (suc i)) = omega arith
 
 -- a record at the front: the profile that it says is well-formed, and its record is what stands there
-record Backs (s : Shape) (bs : List ℕ) : Type 0 where
-  good : WellFormed s (profileAt s bs)
-  whole : recordBytes (profileAt s bs) ++ drop (2 + bodyLength s (nameLengthAt bs)) bs ≡ bs
+pub record Backs (s : Shape) (bs : List ℕ) : Type 0 where
+  pub good : WellFormed s (profileAt s bs)
+  pub whole : recordBytes (profileAt s bs) ++ drop (2 + bodyLength s (nameLengthAt bs)) bs ≡ bs
 
 four-there : (s : Shape) (bs : List ℕ) → T (isRecord s bs) → 4 ≤ length bs
 unfolding isRecord
@@ -59,7 +59,7 @@ four-there s bs t =
     let y = and-yes (leb (2 + bodyLength s (nameLengthAt bs)) (length bs)) _ t in
     omega (arith, leb→le (2 + bodyLength s (nameLengthAt bs)) (length bs) (y .0))
 
-backs : (s : Shape) (bs : List ℕ) → Bytes bs → T (isRecord s bs) → Backs s bs
+pub backs : (s : Shape) (bs : List ℕ) → Bytes bs → T (isRecord s bs) → Backs s bs
 unfolding isRecord recordBytes
 backs s [] g t = absurd (omega (arith, four-there s [] t))
 backs s (a ∷ []) g t = absurd (omega (arith, four-there s (a ∷ []) t))

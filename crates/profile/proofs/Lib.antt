@@ -4,3 +4,5 @@ pub mod Tables
 pub mod Backs
 pub mod Sizes
 pub mod Members
+pub mod Decides
+pub mod Example

@@ -11,9 +11,19 @@ use Rattle.names.specs.Name.{profileLimit}
 use Rattle.names.specs.Order.{precedes}
 use Rattle.profile.specs.Profile.{Shape, version1, Profile, bodyLength, sumOf, recordBytes}
 use Rattle.profile.specs.Table.{profileCount, nameAt, isRecord, TableReading, profiles, addProfile, unlessEnd, profilesFrom, tableOf, recordsBytes, tableBytes}
-use Rattle.profile.specs.Theorems.{Ascending, RecordsReadBack, TablesReadBack}
+use Rattle.profile.specs.Theorems.{WellFormed, Ascending, RecordsReadBack, TablesReadBack}
 use Rattle.profile.proofs.Fronts.{Fronts, fronts}
-use Rattle.profile.proofs.Steps.{not-end}
+use Rattle.profile.proofs.Steps.{one-more}
+
+-- a record that comes after the name before it, where there is room
+pub next-record : (s : Shape) → bodyLength s profileLimit < 2 ^ 16 → (room : ℕ) (before : List ℕ) (p : Profile) (rest : List ℕ)
+    → WellFormed s p → T (precedes before (p .name))
+    → profilesFrom s (suc room) before (recordBytes p ++ rest) ≡ addProfile p (profilesFrom s room (p .name) rest)
+next-record s short room before p rest w b =
+    let bs = recordBytes p ++ rest in
+    let f = fronts s p rest w short in
+    let right : precedes before (nameAt bs) ≡ true = rw (f .named) (is-true (precedes before (p .name)) b) in
+    one-more s before bs (f .some) room (is-true (isRecord s bs) (f .is)) right ∙ rw (f .says, f .behind, f .named)
 
 pub records-read-back : RecordsReadBack
 unfolding profilesFrom recordsBytes addProfile unlessEnd
@@ -21,10 +31,7 @@ records-read-back s short zero before [] asc few = refl
 records-read-back s short (suc room) before [] asc few = refl
 records-read-back s short zero before (p ∷ ps) asc few = absurd (omega arith)
 records-read-back s short (suc room) before (p ∷ ps) (w, (b, asc)) few =
-    let f = fronts s p (recordsBytes ps) w short in
-    let more = records-read-back s short room (p .name) ps asc (omega arith) in
-    not-end (recordBytes p ++ recordsBytes ps) _ (f .some)
-    ∙ rw (is-true (isRecord s (recordBytes p ++ recordsBytes ps)) (f .is), f .says, f .behind, f .named, is-true (precedes before (p .name)) b, more)
+    next-record s short room before p (recordsBytes ps) w b ∙ rw (records-read-back s short room (p .name) ps asc (omega arith))
 
 pub tables-read-back : TablesReadBack
 unfolding tableOf sumOf

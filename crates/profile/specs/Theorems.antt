@@ -1,17 +1,21 @@
--- What is proved of profile tables: they read back, what is read is written back, and a look-up is membership. The proofs are in `proofs/Fronts.antt`,
--- `proofs/Tables.antt` and `proofs/Members.antt`.
+-- What is proved of profile tables: they read back, what is read is written back, the first bad record decides, and a look-up is membership; and one table in
+-- bytes. The proofs are in `proofs/Fronts.antt`, `proofs/Tables.antt`, `proofs/Backs.antt`, `proofs/Decides.antt`, `proofs/Example.antt` and
+-- `proofs/Members.antt`.
 use mathlib.Core.Path.{_≡_}
+use mathlib.Core.Bool.{true, false}
 use mathlib.Core.List.{List, [], _∷_, _++_, map}
-use mathlib.Core.Logic.{_↔_}
+use mathlib.Core.Logic.{_↔_, _⊎_}
 use Prim.Native.Nat.{ℕ, _+_, _^_, _≤_, _<_}
 use lib.Dec.{T}
 use lib.ListN.{length}
+use Rattle.octets.specs.Ascii.{ascii}
 use Rattle.octets.specs.Bytes.{Bytes}
+use Rattle.words.specs.BigEndian.{bytes}
 use Rattle.names.specs.Name.{isRaisedName, profileLimit}
 use Rattle.names.specs.Order.{precedes}
-use Rattle.profile.specs.Profile.{Shape, version1, Profile, bodyLength}
+use Rattle.profile.specs.Profile.{Shape, version1, Profile, bodyLength, enabled, desAllowed, desToken, shaToken, recordBytes}
 use Rattle.profile.specs.Lookup.{oneProfile, profileNamed}
-use Rattle.profile.specs.Table.{profileCount, TableReading, profiles, profilesFrom, tableOf, recordsBytes, tableBytes}
+use Rattle.profile.specs.Table.{profileCount, TableReading, profiles, tableRefused, profilesFrom, tableOf, recordsBytes, tableBytes}
 
 -- a profile that a record of a shape can say
 pub record WellFormed (s : Shape) (p : Profile) : Type 0 where
@@ -40,6 +44,51 @@ abbrev pub TablesWrittenBack : Type 0
 TablesWrittenBack =
     (bs : List ℕ) (ps : List Profile) → Bytes bs → tableOf bs ≡ profiles ps
     → (tableBytes ps ≡ bs) × (Ascending version1 [] ps × (length ps ≤ profileCount))
+
+-- the name that the next record must come after; none, before the first
+unfoldable pub lastName : List Profile → List ℕ
+lastName [] = []
+lastName (p ∷ []) = p .name
+lastName (p ∷ q ∷ ps) = lastName (q ∷ ps)
+
+-- bytes at whose front there is no record of a well-formed profile
+abbrev pub Malformed : List ℕ → Type 0
+Malformed bs = (p : Profile) (more : List ℕ) → WellFormed version1 p → bs ≡ recordBytes p ++ more → ⊥
+
+-- what the bytes after good records decide by the record at their front, whatever comes after it: 31, and then 32
+pub record FrontDecides (ps : List Profile) (rest : List ℕ) : Type 0 where
+  pub malformed : (rest ≡ [] → ⊥) → Malformed rest → tableOf (tableBytes ps ++ rest) ≡ tableRefused 31
+  pub misplaced : (p : Profile) (more : List ℕ) → WellFormed version1 p → rest ≡ recordBytes p ++ more
+      → (T (precedes (lastName ps) (p .name)) → ⊥) ⊎ (length ps ≡ 500) → tableOf (tableBytes ps ++ rest) ≡ tableRefused 32
+
+-- "In tables, record by record, 31 before 32": the first record that is malformed, out of order or the 501st decides.
+abbrev pub FirstRecordDecides : Type 0
+FirstRecordDecides = (ps : List Profile) → Ascending version1 [] ps → length ps ≤ 500 → (rest : List ℕ) → Bytes rest → FrontDecides ps rest
+
+-- Ascending profiles make a table exactly where they are at most 500; "a 501st record" is 32.
+abbrev pub AtMost500 : Type 0
+AtMost500 =
+    (ps : List Profile) → Ascending version1 [] ps
+    → (length ps ≤ 500 → tableOf (tableBytes ps) ≡ profiles ps) × (500 < length ps → tableOf (tableBytes ps) ≡ tableRefused 32)
+
+-- A record of 33 bytes: its length without the first two, flags 01X, a name of one letter, and the two tokens.
+abbrev pub exampleRecord : List ℕ
+exampleRecord =
+    0x00 ∷ 0x1F ∷ 0x01 ∷ 0x01 ∷ 0x55 ∷ (bytes 8 0xD1D2D3D4D5D6D7D8 ++ bytes 20 0xA1A2A3A4A5A6A7A8A9AAABACADAEAFB0B1B2B3B4)
+
+-- what a profile says
+pub record IsExample (p : Profile) : Type 0 where
+  pub name : p .name ≡ ascii "U"
+  pub isEnabled : enabled p ≡ true
+  pub isDesAllowed : desAllowed p ≡ false
+  pub des : desToken p ≡ bytes 8 0xD1D2D3D4D5D6D7D8
+  pub sha : shaToken p ≡ bytes 20 0xA1A2A3A4A5A6A7A8A9AAABACADAEAFB0B1B2B3B4
+
+-- The table of that record reads as one profile, with its name, marks and tokens.
+pub record ExampleRead : Type 0 where
+  pub profile : Profile
+  pub reads : tableOf (0x01 ∷ exampleRecord) ≡ profiles (profile ∷ [])
+  pub says : IsExample profile
 
 -- a profile, somewhere in a list
 pub record Occurs (p : Profile) (ps : List Profile) : Type 0 where

@@ -2,7 +2,7 @@
 // sides, three bytes each. A call is a verb that we receive (FB to FE), an option, and whether on is accepted (01); or our request for our own side (00 off,
 // 01 on) or for the other's (02 off, 03 on), an option, and 00.
 //
-// A line of output for each call has the verb and the event by which we would say the same of the same side; then the number, what is written, and the
+// A line of output for each call has the verb and the command by which we would say the same of the same side; then the number, what is written, and the
 // states of our side and the other's, numbered as the rows of the specification's table from 0 on. `stdout` is from RFC 854 (WILL is acknowledged by DO,
 // DO by WILL; who sends WILL or WONT speaks of his own side), that table, and the exchanges that RFC 4777 prints in sections 2 and 3.
 use option_rules::Command;
@@ -13,7 +13,6 @@ use option_sides::Outgoing;
 use option_sides::Sides;
 use option_sides::Told;
 use option_sides::Whose;
-use telnet::Kind;
 use telnet::Verb;
 
 fn say(text: &[u8]) {
@@ -34,14 +33,12 @@ fn say_verb(verb: Verb) {
     }
 }
 
-fn say_event(event: Outgoing) {
-    match event {
+fn say_command(command: Outgoing) {
+    match command {
         Outgoing::Nothing => say(b" nothing"),
-        Outgoing::Event(kind) => {
-            if let Kind::Negotiation(verb, option) = kind {
-                say_verb(verb);
-                say_number(option);
-            }
+        Outgoing::Command(verb, option) => {
+            say_verb(verb);
+            say_number(option);
         }
     }
 }
@@ -51,7 +48,7 @@ fn say_said(told: Told, option: u8) {
     let whose = told.whose;
     let command = told.command;
     say_verb(option_sides::verb_for(whose, command));
-    say_event(option_sides::event_for(whose, option, Sending::Command(command)));
+    say_command(option_sides::command_for(whose, option, Sending::Command(command)));
     say(b";");
 }
 
@@ -119,7 +116,7 @@ fn step(sides: Sides, call: u8, option: u8, accept: u8) -> Sides {
     let answer = called(sides, call, option, accept);
     say_number(answer.number);
     let writes = answer.writes;
-    say_event(writes);
+    say_command(writes);
     let next = answer.sides;
     say_sides(next, option);
     next

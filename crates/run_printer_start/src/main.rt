@@ -3,7 +3,7 @@
 // that the listing has for it, and what it means to the end that reads it.
 //
 // The steps are in libraries, each with its promise: `play_options`, `play_environ`, `play_signon`, `play_response`, `play_order`. The places and lengths in
-// `stdout` were computed by a Python rendering of the framing of RFCs 854, 855 and 1572; the words behind a colon (the verdict, the code, held, print complete)
+// `stdout` were computed by a Python rendering of the framing of RFCs 854, 855 and 1572; the words after a colon (the verdict, the code, held, print complete)
 // were written down as what the papers let expect, and the substitute is that of `run_password`.
 
 // The option commands of both ends come first, 18 bytes on either line; the printer signs on where the options rest on, and the order is sent and heard back.

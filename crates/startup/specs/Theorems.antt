@@ -1,11 +1,12 @@
--- What is proved of response records, for a good system name and a good device name. The proofs are in `proofs/Records.antt`.
+-- What is proved of response records: for a good system name and a good device name, and of the two that RFC 4777 prints. The proofs are in
+-- `proofs/Records.antt`.
 use mathlib.Core.Path.{_≡_}
 use mathlib.Core.Bool.{Bool, true, false}
 use mathlib.Core.List.{List, [], _∷_, _++_}
 use mathlib.Core.Logic.{_↔_, _⊎_}
-use Prim.Native.Nat.{ℕ, _+_}
+use Prim.Native.Nat.{ℕ, _+_, _-_}
 use lib.Dec.{T}
-use lib.ListN.{length, take, drop}
+use lib.ListN.{length, take, drop, replicate}
 use Rattle.octets.specs.Ascii.{ascii}
 use Rattle.words.specs.BigEndian.{bytes}
 use Rattle.names.specs.Ebcdic.{ebcdicOf}
@@ -29,10 +30,14 @@ abbrev pub Says : List ℕ → List ℕ → Type 0
 Says r code = codeAt r ≡ ebcdicOf code
 
 -- what holds of the record for a fault or none, a verdict and two names
-pub record Responds (fault : Bool) (v : Verdict) (r : List ℕ) : Type 0 where
+pub record Responds (fault : Bool) (v : Verdict) (system device r : List ℕ) : Type 0 where
   -- it has 73 bytes, and its first two say so
   pub size : length r ≡ 73
   pub says : take 2 r ≡ bytes 2 73
+  -- in bytes 20 to 27 the system name, in bytes 28 to 37 the device name, each in EBCDIC with blanks after it, and zeros after them
+  pub systemName : take 8 (drop 20 r) ≡ ebcdicOf system ++ replicate (8 - length system) 0x40
+  pub deviceName : take 10 (drop 28 r) ≡ ebcdicOf device ++ replicate (10 - length device) 0x40
+  pub tail : drop 38 r ≡ replicate 35 0
   -- written as a run and an end-of-record it reads back as one record, whatever the names
   pub readsBack : (bs : List ℕ) → recordOf (writtenAll (run r ∷ command eor ∷ []) ++ bs) ≡ complete r (length (doubled r) + 2)
   -- the code determines fault and verdict, and is determined by them
@@ -48,4 +53,13 @@ pub record Responds (fault : Bool) (v : Verdict) (r : List ℕ) : Type 0 where
 abbrev pub ResponsesAreRight : Type 0
 ResponsesAreRight =
     (fault : Bool) (v : Verdict) (system device : List ℕ) → T (isName systemLimit system) → T (isName deviceLimit device)
-    → Responds fault v (responseOf fault v system device)
+    → Responds fault v system device (responseOf fault v system device)
+
+-- The two records of RFC 4777, 10.1 and 10.2, in the rows of figures 1 and 2: a session that has started, and a device that is not available.
+pub record Figures : Type 0 where
+  pub first : responseOf false Grant (ascii "TARGET") (ascii "PCPRINTER")
+      ≡ bytes 32 0x004912A090000560060020C0003D0000C9F9F0F2E3C1D9C7C5E34040D7C3D7D9
+      ++ (bytes 32 0xC9D5E3C5D9400000000000000000000000000000000000000000000000000000 ++ bytes 9 0x000000000000000000)
+  pub second : responseOf true Grant (ascii "TARGET") (ascii "PCPRINTER")
+      ≡ bytes 32 0x004912A09000056006008200003D0000F8F9F0F2E3C1D9C7C5E34040D7C3D7D9
+      ++ (bytes 32 0xC9D5E3C5D9400000000000000000000000000000000000000000000000000000 ++ bytes 9 0x000000000000000000)

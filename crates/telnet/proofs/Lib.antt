@@ -3,3 +3,5 @@ pub mod Unroll
 pub mod RoundTrip
 pub mod Writable
 pub mod Between
+pub mod Refusals
+pub mod Faults

@@ -1,7 +1,7 @@
 -- `claims::demand_1` promises that every entry point refuses by its own numbers and leaves all as it was. Assumes nothing.
 use Rattle.claims.proofs.LineRefusals.{looks, reads, reads-records, writes, lists, receives, requests}
 use Rattle.claims.proofs.SessionRefusals.{session-receives, session-requests, line-receives, line-requests, line-hears}
-use Rattle.claims.proofs.PayloadRefusals.{reads-payloads, reads-lists, writes-payloads}
+use Rattle.claims.proofs.PayloadRefusals.{reads-payloads, reads-lists, writes-payloads, reads-variables, delivers, hands-over}
 use Rattle.claims.proofs.SignonRefusals.{checks, finds, makes, des-tokens, sha-tokens, des-substitutes, sha-substitutes, judges, responds, reads-frames, takes, completes}
 use Rattle.claims.proofs.demand_1.Statement.{statement}
 use Rattle.claims.proofs.demand_1.Tie as tie
@@ -23,6 +23,9 @@ returns c = record {
   readPayload = reads-payloads;
   readRecords = reads-lists;
   writePayload = writes-payloads;
+  readVariables = reads-variables;
+  deliver = delivers;
+  handOver = hands-over;
   check = checks;
   find = finds;
   make = makes;

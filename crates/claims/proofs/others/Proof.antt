@@ -1,7 +1,6 @@
 -- `claims::others` promises what the crates of the definitions prove. Assumes nothing.
 use Rattle.octets.proofs.Equality.{same-is-equal}
 use Rattle.words.proofs.Padding.{fewest-zero-bits}
-use Rattle.option_sides.proofs.Setting.{heard-as-said, sets-one}
 use Rattle.env.proofs.Repeats.{is-both, among-is-occurs, repeated-is-twice}
 use Rattle.env.proofs.Boundary.{boundaries-read}
 use Rattle.env_records.proofs.Found.{finds-the-value, absent-where-none}
@@ -17,8 +16,6 @@ returns : tie.Need-returns
 returns c = record {
   sameIsEqual = same-is-equal;
   fewestZeroBits = fewest-zero-bits;
-  heardAsSaid = heard-as-said;
-  setsOne = sets-one;
   isBoth = is-both;
   amongIsOccurs = among-is-occurs;
   repeatedIsTwice = repeated-is-twice;

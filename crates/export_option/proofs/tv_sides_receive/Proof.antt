@@ -1,11 +1,11 @@
 -- `export_option::tv_sides_receive` meets its contract: by whether the code names an option command. Assumes nothing.
-use borrow.Author.Needs.{needs}
 use mathlib.Core.Path.{_≡_, ap, sym, _∙_}
 use Rattle.option_sides.specs.declared.Sides.{Sides}
 use Rattle.option_sides.specs.Session.{received}
 use Rattle.export.specs.declared.NamedVerb.the-variants.{Nothing as NoVerb, Verb as IsVerb}
 use Rattle.export.specs.Numbers.{verbNamed}
 use Rattle.export_option.specs.Numbers.{answeredNumbers}
+use borrow.Author.Needs.{needs}
 use Rattle.export_option.proofs.tv_sides_receive.Statement.{statement}
 use Rattle.export_option.proofs.tv_sides_receive.Tie as tie
 
@@ -29,13 +29,15 @@ enum-told c = search needs
 
 returns : tie.Need-returns
 returns c =
-    let a = c .before .before .before .before .before .before .before .args in
-    let v = c .before .before .before .before .verb .given .0 .0 in
-    let e : verbNamed (a .code) ≡ IsVerb v = sym (c .before .before .before .before .before .before .verb-named .ensures) ∙ c .before .before .before .before .verb .given .1 in
+    let n = c .before .before in
+    let w = n .before .before in
+    let a = w .before .before .before .args in
+    let v = w .verb .given .0 .0 in
+    let e : verbNamed (a .code) ≡ IsVerb v = sym (w .before .before .verb-named .ensures) ∙ w .verb .given .1 in
     rw e
     (c .answered-numbers .ensures
-    ∙ ap answeredNumbers (c .before .receive .ensures)
-    ∙ ap (λ (s : Sides). answeredNumbers (received s v (a .option) (a .accept))) (c .before .before .sides-named .ensures))
+    ∙ ap (answeredNumbers (a .sides)) (c .before .receive .ensures)
+    ∙ ap (λ (s : Sides). answeredNumbers (a .sides) (received s v (a .option) (a .accept))) (n .sides-named .ensures))
 
 returns-2 : tie.Need-returns-2
 returns-2 c =

@@ -1,17 +1,19 @@
 -- `export_option::tv_sides_request` meets its contract: the numbers of what `request` answers. Assumes nothing.
-use borrow.Author.Needs.{needs}
 use mathlib.Core.Path.{_≡_, ap, _∙_}
 use Prim.Native.Nat.{ℕ}
 use Rattle.option_rules.specs.declared.Command.{Command}
 use Rattle.option_sides.specs.declared.Whose.{Whose}
 use Rattle.option_sides.specs.declared.Sides.{Sides}
 use Rattle.option_sides.specs.Session.{requested}
+use Rattle.export_option.specs.declared.TvSides.{TvSides}
 use Rattle.export_option.specs.Numbers.{answeredNumbers}
+use borrow.Author.Needs.{needs}
 use Rattle.export_option.proofs.tv_sides_request.Statement.{statement}
 use Rattle.export_option.proofs.tv_sides_request.Tie as tie
 
-same : {s t : Sides} {w x : Whose} {c d : Command} (o : ℕ) → s ≡ t → w ≡ x → c ≡ d → answeredNumbers (requested s w o c) ≡ answeredNumbers (requested t x o d)
-same o e f g = rw (e, f, g)
+same : (given : TvSides) {s t : Sides} {w x : Whose} {c d : Command} (o : ℕ) → s ≡ t → w ≡ x → c ≡ d
+    → answeredNumbers given (requested s w o c) ≡ answeredNumbers given (requested t x o d)
+same given o e f g = rw (e, f, g)
 
 whose-named-requires : tie.Need-whose-named-requires
 whose-named-requires c κs = search needs
@@ -30,9 +32,11 @@ answered-numbers-requires c κs = search needs
 
 returns : tie.Need-returns
 returns c =
+    let m = c .before .before in
+    let a = m .before .before .before .args in
     c .answered-numbers .ensures
-    ∙ ap answeredNumbers (c .before .request .ensures)
-    ∙ same (c .before .before .before .before .before .args .option) (c .before .before .sides-named .ensures) (c .before .before .before .before .whose-named .ensures) (c .before .before .before .command-named .ensures)
+    ∙ ap (answeredNumbers (a .sides)) (c .before .request .ensures)
+    ∙ same (a .sides) (a .option) (m .sides-named .ensures) (m .before .before .whose-named .ensures) (m .before .command-named .ensures)
 
 pub tv-sides-request-spec : {M : Type 1} → statement M
 tv-sides-request-spec =

@@ -16,7 +16,7 @@ returns : tie.Need-returns
 returns c = rw (c .enum-told .given .1, c .before .before .ledger-number .ensures)
 
 returns-2 : tie.Need-returns-2
-returns-2 c = rw (c .before .completion .given .1, c .before .before .before .ledger-number .ensures)
+returns-2 c = rw (c .before .completion .given .1)
 
 pub completed-numbers-spec : {M : Type 1} → statement M
 completed-numbers-spec =

@@ -28,7 +28,7 @@ returns-3 : tie.Need-returns-3
 returns-3 c = rw (c .enum-told3 .given .1, c .before .before .ledger-number .ensures)
 
 returns-4 : tie.Need-returns-4
-returns-4 c = rw (c .before .receipt .given .1, c .before .before .before .ledger-number .ensures)
+returns-4 c = rw (c .before .receipt .given .1)
 
 pub taken-numbers-spec : {M : Type 1} → statement M
 taken-numbers-spec =

@@ -23,8 +23,9 @@ same-length c = search needs
 
 returns : tie.Need-returns
 returns c =
-    by-numbers completedNumbers (c .completed-numbers .ensures) (c .before .before .before .complete .ensures)
-    ∙ ap (λ (l : Ledger). numbered completedNumbers (completeInto l (c .before .before .before .before .before .before .before .args .out .now))) (c .before .before .before .before .before .ledger-named .ensures)
+    let a = c .before .before .before .before .before .before .before .args in
+    by-numbers (completedNumbers (a .ledger)) (c .completed-numbers .ensures) (c .before .before .before .complete .ensures)
+    ∙ ap (λ (l : Ledger). numbered (completedNumbers (a .ledger)) (completeInto l (a .out .now))) (c .before .before .before .before .before .ledger-named .ensures)
 
 pub tv-ledger-complete-spec : {M : Type 1} → statement M
 tv-ledger-complete-spec =

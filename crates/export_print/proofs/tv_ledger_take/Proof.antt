@@ -18,9 +18,10 @@ taken-numbers-requires c κs = search needs
 
 returns : tie.Need-returns
 returns c =
+    let a = c .before .before .before .before .args in
     c .taken-numbers .ensures
-    ∙ ap takenNumbers (c .before .take-frame .ensures)
-    ∙ ap (λ (l : Ledger). takenNumbers (takeFrame l (c .before .before .before .before .args .frame .now))) (c .before .before .ledger-named .ensures)
+    ∙ ap (takenNumbers (a .ledger)) (c .before .take-frame .ensures)
+    ∙ ap (λ (l : Ledger). takenNumbers (a .ledger) (takeFrame l (a .frame .now))) (c .before .before .ledger-named .ensures)
 
 pub tv-ledger-take-spec : {M : Type 1} → statement M
 tv-ledger-take-spec =

@@ -1,7 +1,10 @@
--- `option_line::send` meets its contract: what `put_command` answers decides. Assumes nothing.
+-- `option_line::send` meets its contract: what `octets::put` answers decides. Assumes nothing.
+use mathlib.Core.Path.{_≡_, ap, _∙_}
+use mathlib.Core.Bool.{true, false}
+use mathlib.Core.List.{List}
 use native.Mathlib.Omega.{arith}
-use Rattle.option_line.specs.Line.{commandBytes}
-use Rattle.option_line.proofs.Sending.{nothing-sent, command-sent, no-room-for, put-within}
+use Rattle.octets.specs.Promise.{putAt}
+use Rattle.option_line.proofs.Sending.{nothing-sent, command-sent, put-within}
 use borrow.Author.Needs.{needs}
 use Rattle.option_line.proofs.send.Statement.{statement}
 use Rattle.option_line.proofs.send.Tie as tie
@@ -17,30 +20,36 @@ returns c =
 enum-known-writes : tie.Need-enum-known-writes
 enum-known-writes c = search needs
 
-put-command-requires : tie.Need-put-command-requires
-put-command-requires c κs = search needs
+command-bytes-requires : tie.Need-command-bytes-requires
+command-bytes-requires c κs = search needs
 
-command-length-requires : tie.Need-command-length-requires
-command-length-requires c κs = search needs
+slice-aggregate-put : tie.Need-slice-aggregate-put
+slice-aggregate-put c = search needs
 
-add-t13 : tie.Need-add-t13
-add-t13 c =
-    let p = c .before .before .before .before in
-    let w = p .before .before .before in
-    let a = w .before .before .before .before .args in
-    let put = rw (c .before .if1 .taken) at (p .put-command .ensures) in
-    omega (arith, c .command-length .ensures, put-within (commandBytes (w .writes .given .0 .0)) (a .line .now) (a .at) put)
+put-requires : tie.Need-put-requires
+put-requires c κs = search needs
+
+add-t17 : tie.Need-add-t17
+add-t17 c =
+    let p = c .before .before .before in
+    let b = p .before .before .before in
+    let w = b .before .before in
+    let f = w .before .before .before .before in
+    let a = f .args in
+    let put = rw (c .if1 .taken, b .command-bytes .ensures) at (p .put .ensures) in
+    omega (arith, f .fits, put-within (w .writes .given .0 .0) (w .writes .given .0 .1 .0) (a .line .now) (a .at) put)
 
 same-length : tie.Need-same-length
 same-length c = search needs
 
 returns-2 : tie.Need-returns-2
 returns-2 c =
-    let p = c .before .before .before .before in
-    let w = p .before .before .before in
+    let p = c .before .before .before in
+    let b = p .before .before .before in
+    let w = b .before .before in
     let a = w .before .before .before .before .args in
-    let put = rw (c .before .if1 .taken) at (p .put-command .ensures) in
-    command-sent (a .sides) (a .answered) (a .line .now) (a .at) _ (w .writes .given .1) put (c .command-length .ensures)
+    let put = rw (c .if1 .taken, b .command-bytes .ensures) at (p .put .ensures) in
+    command-sent (a .sides) (a .answered) (a .line .now) (a .at) _ _ (w .writes .given .1) true put
 
 same-length-2 : tie.Need-same-length-2
 same-length-2 c = search needs
@@ -48,10 +57,11 @@ same-length-2 c = search needs
 returns-3 : tie.Need-returns-3
 returns-3 c =
     let p = c .before .before .before in
-    let w = p .before .before .before in
+    let b = p .before .before .before in
+    let w = b .before .before in
     let a = w .before .before .before .before .args in
-    let put = rw (c .if1 .left) at (p .put-command .ensures) in
-    no-room-for (a .sides) (a .answered) (a .line .now) (a .at) _ (w .writes .given .1) put
+    let put = rw (c .if1 .left, b .command-bytes .ensures) at (p .put .ensures) in
+    command-sent (a .sides) (a .answered) (a .line .now) (a .at) _ _ (w .writes .given .1) false put
 
 pub send-spec : {M : Type 1} → statement M
 send-spec =
@@ -60,9 +70,10 @@ send-spec =
     enum-told
     returns
     enum-known-writes
-    put-command-requires
-    command-length-requires
-    add-t13
+    command-bytes-requires
+    slice-aggregate-put
+    put-requires
+    add-t17
     same-length
     returns-2
     same-length-2

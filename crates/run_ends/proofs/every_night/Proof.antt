@@ -7,10 +7,10 @@ use Rattle.run_ends.proofs.every_night.Statement.{statement}
 use Rattle.run_ends.proofs.every_night.Tie as tie
 
 abbrev Inv-loop : tie.InvT-loop
-Inv-loop deep₀ sent₀ restless₀ run₀ deep sent restless run = (run ≤ 118098) × (restless ≤ run)
+Inv-loop deep₀ most₀ restless₀ sent₀ granted₀ run₀ deep most restless sent granted run = (run ≤ 118098) × (restless ≤ run)
 
 abbrev μ-loop : tie.MeasureT-loop
-μ-loop deep₀ sent₀ restless₀ run₀ deep sent restless run = 118098 - run
+μ-loop deep₀ most₀ restless₀ sent₀ granted₀ run₀ deep most restless sent granted run = 118098 - run
 
 loop-holds : tie.Need-loop-holds Inv-loop μ-loop
 loop-holds c = search needs
@@ -23,6 +23,12 @@ greater-requires c κs = search needs
 
 greater-requires-2 : tie.Need-greater-requires-2 Inv-loop μ-loop
 greater-requires-2 c κs = search needs
+
+wrapping-add-u64-requires : tie.Need-wrapping-add-u64-requires Inv-loop μ-loop
+wrapping-add-u64-requires c κs = search needs
+
+wrapping-add-u64-requires-2 : tie.Need-wrapping-add-u64-requires-2 Inv-loop μ-loop
+wrapping-add-u64-requires-2 c κs = search needs
 
 add-restless : tie.Need-add-restless Inv-loop μ-loop
 add-restless c = search needs
@@ -49,6 +55,8 @@ every-night-spec =
     one-night-requires
     greater-requires
     greater-requires-2
+    wrapping-add-u64-requires
+    wrapping-add-u64-requires-2
     add-restless
     add-run
     loop-less

@@ -12,13 +12,13 @@ with-requires c κs = search needs
 with-requires-2 : tie.Need-with-requires-2
 with-requires-2 c κs = search needs
 
-event-for-requires : tie.Need-event-for-requires
-event-for-requires c κs = search needs
+command-for-requires : tie.Need-command-for-requires
+command-for-requires c κs = search needs
 
 returns : tie.Need-returns
 returns c =
-    rw (c .event-for .ensures, c .before .with2 .ensures, c .before .before .with .ensures, c .before .before .before .pair .ensures)
+    rw (c .command-for .ensures, c .before .with2 .ensures, c .before .before .with .ensures, c .before .before .before .pair .ensures)
 
 pub stepped-spec : {M : Type 1} → statement M
 stepped-spec =
-    tie.close (tie.spec pair-requires with-requires with-requires-2 event-for-requires returns)
+    tie.close (tie.spec pair-requires with-requires with-requires-2 command-for-requires returns)

@@ -1,0 +1,368 @@
+-- The calls from C (`Demand1C`): an answer's refusal is one of its numbers, and what is handed over by numbers comes
+-- back by them with a refusal; so each field follows from the one of `Demand1`. Assumes nothing.
+use mathlib.Core.Path.{_≡_, refl, ap, subst⁻¹}
+use mathlib.Core.Bool.{Bool, true, false, not, _||_}
+use mathlib.Core.List.{List, [], _∷_}
+use Prim.Native.Nat.{ℕ}
+use lib.Dec.{T, eqb, ltb}
+use lib.ListN.{length}
+use Rattle.octets.specs.Choice.{if_then_else_}
+use Rattle.octets.specs.Lent.{Outcome, outcome}
+use Rattle.octets.specs.Promise.{writeFront}
+use Rattle.octets.proofs.Choice.{choice}
+use Rattle.refusal.specs.Refusal.{noRoom, pastTheEnd, badCommand, offAnsweredByOn, badProfile}
+use Rattle.telnet.specs.Event.{event}
+use Rattle.telnet_reader.specs.declared.Answer.{Answer as EventAnswer}
+use Rattle.telnet_reader.specs.declared.Answer.the-variants.{End, Found as FoundEvent, Refused as EventRefused}
+use Rattle.telnet_reader.specs.Promise.{lookAt, readAt}
+use Rattle.telnet_records.specs.declared.Record.{Record}
+use Rattle.telnet_records.specs.declared.Record.the-variants.{Complete, Unfinished, Refused as RecordRefused}
+use Rattle.telnet_records.specs.Promise.{recordAt}
+use Rattle.telnet_writer.specs.declared.Written.{Written as EventWritten}
+use Rattle.telnet_writer.specs.declared.Written.the-variants.{Wrote as WroteEvent, Refused as EventNotWritten}
+use Rattle.telnet_writer.specs.Promise.{writeOf}
+use Rattle.telnet_line.specs.declared.Listed.{Listed}
+use Rattle.telnet_line.specs.declared.Listed.the-variants.{Wrote as WroteLines, Refused as NotListed}
+use Rattle.telnet_line.specs.Promise.{putFront}
+use Rattle.option_sides.specs.declared.Outgoing.{Outgoing}
+use Rattle.option_sides.specs.declared.Outgoing.the-variants.{Nothing as NoCommand, Command as OptionCommand}
+use Rattle.option_sides.specs.declared.Sides.{Sides}
+use Rattle.option_sides.specs.declared.Answered.{Answered}
+use Rattle.option_sides.specs.Session.{received, requested}
+use Rattle.option_line.specs.declared.Sent.{Sent}
+use Rattle.option_line.specs.Line.{receivedOn, requestedOn, heardOn}
+use Rattle.env_delivery.specs.declared.Answer.{Answer as PayloadAnswer}
+use Rattle.env_delivery.specs.declared.Answer.the-variants.{Read as ReadPayload, Refused as PayloadRefused}
+use Rattle.env_delivery.specs.Promise.{readInto}
+use Rattle.env_writer.specs.declared.Written.{Written as PayloadWritten}
+use Rattle.env_writer.specs.declared.Written.the-variants.{Wrote as WrotePayload, Refused as PayloadNotWritten}
+use Rattle.env_writer.specs.Promise.{writeInto}
+use Rattle.profile.specs.Table.{tableOf}
+use Rattle.profile_table.specs.declared.TableCheck.{TableCheck}
+use Rattle.profile_table.specs.declared.TableCheck.the-variants.{Profiles, Refused as TableRefused}
+use Rattle.profile_table.specs.declared.Found.{Found}
+use Rattle.profile_table.specs.declared.Found.the-variants.{Present, Absent, Refused as LookupRefused}
+use Rattle.profile_table.specs.Answer.{checked, foundIn}
+use Rattle.profile_maker.specs.declared.Made.{Made}
+use Rattle.profile_maker.specs.declared.Made.the-variants.{Wrote as MadeRecord, Refused as NotMade}
+use Rattle.profile_maker.specs.Promise.{makeInto}
+use Rattle.password_des.specs.declared.Block.{Block}
+use Rattle.password_des.specs.declared.Block.the-variants.{Value, Refused as NoBlock}
+use Rattle.password_des.specs.Answer.{desToken, desSubstitute}
+use Rattle.password_sha.specs.declared.Hash.{Hash}
+use Rattle.password_sha.specs.Answer.{shaToken, shaSubstitute}
+use Rattle.signon.specs.declared.Answer.{Answer as SignonAnswer}
+use Rattle.signon.specs.declared.Answer.the-variants.{Given, Refused as SignonRefused}
+use Rattle.signon.specs.Verdict.{answerOf}
+use Rattle.startup_record.specs.declared.Written.{Written as ResponseWritten}
+use Rattle.startup_record.specs.declared.Written.the-variants.{Wrote as WroteResponse, Refused as ResponseRefused}
+use Rattle.startup_record.specs.Promise.{respondInto}
+use Rattle.print_frame.specs.declared.FrameAnswer.{FrameAnswer}
+use Rattle.print_frame.specs.declared.FrameAnswer.the-variants.{Read as ReadFrame, Refused as FrameRefused}
+use Rattle.print_frame.specs.Frame.{frameOf}
+use Rattle.print_ledger.specs.declared.Ledger.{Ledger}
+use Rattle.print_ledger.specs.declared.Receipt.{Receipt}
+use Rattle.print_ledger.specs.declared.Receipt.the-variants.{Held, Cleared, NothingToClear, Refused as NotTaken}
+use Rattle.print_ledger.specs.declared.Completion.{Completion}
+use Rattle.print_ledger.specs.declared.Completion.the-variants.{Written as CompletionWritten}
+use Rattle.print_ledger.specs.declared.Completion.the-variants.{Refused as CompletionRefused}
+use Rattle.print_ledger.specs.Ledger.{takeFrame, completeInto}
+use Rattle.export.specs.declared.NamedVerb.{NamedVerb}
+use Rattle.export.specs.declared.NamedVerb.the-variants.{Nothing as NoVerb, Verb as IsVerb}
+use Rattle.export.specs.declared.NamedKind.{NamedKind}
+use Rattle.export.specs.declared.NamedKind.the-variants.{Nothing as NoKind, Kind as IsKind}
+use Rattle.export.specs.Numbers.{numbered, notWritten, verbNamed, kindNamed}
+use Rattle.export.proofs.KindNames.{no-verb, no-kind}
+use Rattle.export_telnet.specs.Numbers as Telnet
+use Rattle.export_option.specs.declared.TvSides.{TvSides}
+use Rattle.export_option.specs.Numbers.{sidesNamed, whoseNamed, commandNamed, sidesNumbers, isRefusal, handedBack}
+use Rattle.export_option.specs.Numbers.{answering, answeredNumbers, receiveNamed, sentTo, sentNumbers, receiveOnNamed}
+use Rattle.export_env.specs.Numbers as Env
+use Rattle.export_listing.specs.Numbers.{listedNumbers}
+use Rattle.export_profile.specs.Numbers.{tableNumbers, foundNumbers, madeNumbers}
+use Rattle.export_password.specs.Numbers.{shaLength, blockNumbers, hashInto, substituteInto}
+use Rattle.export_signon.specs.Numbers as Signon
+use Rattle.export_signon.specs.Numbers.{verdictNamed, answerNumbers}
+use Rattle.export_print.specs.Numbers.{frameNumbers, ledgerNumber, ledgerNamed, receiptNumbers, completionNumbers}
+use Rattle.claims.specs.Refusals.{Refusal, noRefusal, refusedBy, oneOf, Refuses, byNumber, byReceipt, ofEvent}
+use Rattle.claims.specs.Refusals.{ofRecord, ofEventWritten, ofListed, ofPayload, ofPayloadWritten, ofFrame}
+use Rattle.claims.specs.Refusals.{ofReceipt, ofCompletion, ofBlock, ofCheck, ofFound, ofMade, ofSignon}
+use Rattle.claims.specs.Refusals.{ofResponse}
+use Rattle.claims.specs.Demand1.{RefusesBy, RefusesInto, RefusesOnLine}
+use Rattle.claims.specs.Demand1C.{Writes, Steps, StepsOnLine, Demand1C}
+use Rattle.claims.proofs.OneOf.{of-none, more, behind, wider, mapped, numbers-of}
+use Rattle.claims.proofs.LineRefusals.{looks, reads, reads-records, writes, lists}
+use Rattle.claims.proofs.SessionRefusals.{session-receives, session-requests, line-receives, line-requests}
+use Rattle.claims.proofs.SessionRefusals.{line-hears}
+use Rattle.claims.proofs.PayloadRefusals.{reads-payloads, writes-payloads}
+use Rattle.claims.proofs.SignonRefusals.{checks, finds, makes, des-tokens, sha-tokens, des-substitutes}
+use Rattle.claims.proofs.SignonRefusals.{sha-substitutes, judges, responds, reads-frames, takes, completes}
+
+-- the number that tells a refusal: 0 where there is none
+abbrev numberOf : Refusal → ℕ
+numberOf noRefusal = 0
+numberOf (refusedBy n) = n
+
+module _ (ms : List ℕ) {L : Type 0} (found left : L) where
+  -- What is refused by a number is so where the number is told, and 0 tells of no refusal.
+  by-own-number : (n : ℕ) → Refuses ms found left (refusedBy n) → Refuses ms found left (byNumber n)
+  by-own-number n t = choice (Refuses ms found left) (eqb n 0) (λ _. tt) (λ _. t)
+
+  by-number : (r : Refusal) → Refuses ms found left r → Refuses ms found left (byNumber (numberOf r))
+  by-number noRefusal t = tt
+  by-number (refusedBy n) t = by-own-number n t
+
+  -- The same where 14 is a note.
+  with-note : (n : ℕ) → Refuses ms found left (byNumber n) → Refuses ms found left (byReceipt n)
+  with-note n t = choice (Refuses ms found left) (eqb n offAnsweredByOn) (λ _. tt) (λ _. t)
+
+-- An answer that is told by numbers, of which one is its refusal's.
+module _ {A : Type 0} {refusal : A → ℕ} (of : A → Refusal)
+    (same : (a : A) → refusal a ≡ numberOf (of a)) (ms : List ℕ) where
+  told : {L : Type 0} (found left : L) (a : A)
+      → Refuses ms found left (of a) → Refuses ms found left (byNumber (refusal a))
+  told found left a t =
+      subst⁻¹ (λ n. Refuses ms found left (byNumber n)) (same a) (by-number ms found left (of a) t)
+
+  told-by : (a : A) → RefusesBy ms (of a) → RefusesBy ms (byNumber (refusal a))
+  told-by a t = told tt tt a t
+
+  told-into : (out : List ℕ) (o : Outcome A)
+      → RefusesInto ms of out o → Refuses ms out (o .lent) (byNumber (refusal (o .answer)))
+  told-into out o t = told out (o .lent) (o .answer) t
+
+event-number : (a : EventAnswer) → Telnet.eventNumbers a .refusal ≡ numberOf (ofEvent a)
+event-number End = refl
+event-number (FoundEvent k l n) = refl
+event-number (EventRefused n) = refl
+
+record-number : (a : Record) → Telnet.recordNumbers a .refusal ≡ numberOf (ofRecord a)
+record-number (Complete l n) = refl
+record-number Unfinished = refl
+record-number (RecordRefused n) = refl
+
+event-written-number : (a : EventWritten) → Telnet.writtenNumbers a .refusal ≡ numberOf (ofEventWritten a)
+event-written-number (WroteEvent n) = refl
+event-written-number (EventNotWritten n) = refl
+
+listed-number : (a : Listed) → listedNumbers a .refusal ≡ numberOf (ofListed a)
+listed-number (WroteLines n) = refl
+listed-number (NotListed n) = refl
+
+payload-number : (a : PayloadAnswer) → Env.payloadNumbers a .refusal ≡ numberOf (ofPayload a)
+payload-number (ReadPayload f c u) = refl
+payload-number (PayloadRefused n) = refl
+
+payload-written-number : (a : PayloadWritten) → Env.writtenNumbers a .refusal ≡ numberOf (ofPayloadWritten a)
+payload-written-number (WrotePayload n) = refl
+payload-written-number (PayloadNotWritten n) = refl
+
+table-number : (a : TableCheck) → tableNumbers a .refusal ≡ numberOf (ofCheck a)
+table-number (Profiles n) = refl
+table-number (TableRefused n) = refl
+
+found-number : (a : Found) → foundNumbers a .refusal ≡ numberOf (ofFound a)
+found-number (Present e) = refl
+found-number Absent = refl
+found-number (LookupRefused n) = refl
+
+made-number : (a : Made) → madeNumbers a .refusal ≡ numberOf (ofMade a)
+made-number (MadeRecord n) = refl
+made-number (NotMade n) = refl
+
+block-number : (a : Block) → blockNumbers a .refusal ≡ numberOf (ofBlock a)
+block-number (Value x) = refl
+block-number (NoBlock n) = refl
+
+signon-number : (a : SignonAnswer) → answerNumbers a .refusal ≡ numberOf (ofSignon a)
+signon-number (Given v) = refl
+signon-number (SignonRefused n) = refl
+
+response-number : (a : ResponseWritten) → Signon.writtenNumbers a .refusal ≡ numberOf (ofResponse a)
+response-number (WroteResponse n) = refl
+response-number (ResponseRefused n) = refl
+
+frame-number : (a : FrameAnswer) → frameNumbers a .refusal ≡ numberOf (ofFrame a)
+frame-number (ReadFrame f) = refl
+frame-number (FrameRefused n) = refl
+
+-- an event that numbers name, or none
+writes-named : (k : NamedKind) (payload out : List ℕ)
+    → Writes (7 ∷ 3 ∷ 4 ∷ []) out (numbered Telnet.writtenNumbers (Telnet.writeNamed k payload out))
+unfolding oneOf
+writes-named NoKind payload out = (tt, refl)
+writes-named (IsKind k) payload out =
+    let e = event k payload in told-into ofEventWritten event-written-number _ out (writeOf e out) (writes e out)
+
+module _ (ms : List ℕ) (given : TvSides) where
+  -- Sides that are handed over by numbers come back by them with a refusal, which is neither 0 nor 14.
+  module _ (x : Sides) {M : Type 0} (found left : M) (n : ℕ) where
+    by-tests : (zero note : Bool) → let r = if note then noRefusal else if zero then noRefusal else refusedBy n in
+        Refuses ms found left r
+        → Refuses ms {L = TvSides × M} (given, found) (if not (zero || note) then given else sidesNumbers x, left) r
+    by-tests zero true t = tt
+    by-tests true false t = tt
+    by-tests false false t = (t .0, ap (λ (m : M). (given, m)) (t .1))
+
+    handed : Refuses ms found left (byReceipt n)
+        → Refuses ms {L = TvSides × M} (given, found) (handedBack given n x, left) (byReceipt n)
+    unfolding handedBack isRefusal
+    handed t = by-tests (eqb n 0) (eqb n offAnsweredByOn) t
+
+  answering-by : (x : TvSides) (n : ℕ) (w : Outgoing)
+      → Refuses ms given x (byReceipt n) → Steps ms given (answering x n w)
+  answering-by x n NoCommand t = t
+  answering-by x n (OptionCommand v o) t = t
+
+  steps : (s : Sides) (a : Answered)
+      → Refuses ms s (a .sides) (byReceipt (a .number)) → Steps ms given (answeredNumbers given a)
+  steps s a t =
+      let n = a .number in
+      let x = handedBack given n (a .sides) in
+      answering-by x n (a .writes)
+      (mapped ms (λ (p : TvSides × Sides). p .0) (given, s) (x, a .sides) (byReceipt n)
+      (handed (a .sides) s (a .sides) n t))
+
+  steps-on-line : (s : Sides) (l : List ℕ) (at : ℕ) (o : Outcome Sent)
+      → RefusesOnLine ms byReceipt s l at o → StepsOnLine ms given l at (numbered (sentNumbers given) o)
+  steps-on-line s l at o t =
+      let a = o .answer in
+      let left : List ℕ × ℕ = (o .lent, a .place) in
+      handed (a .sides) {M = List ℕ × ℕ} (l, at) left (a .number)
+      (mapped ms (λ (p : Sides × (List ℕ × ℕ)). p .1) (s, (l, at)) (a .sides, left) (byReceipt (a .number)) t)
+
+-- an option command that a number names, or none
+receives-named : (ms : List ℕ) → T (oneOf ms badCommand) → (s : TvSides) (v : NamedVerb) (option : ℕ) (accept : Bool)
+    → Steps ms s (receiveNamed s v option accept)
+receives-named ms six s NoVerb option accept = (six, refl)
+receives-named ms six s (IsVerb v) option accept =
+    let x = sidesNamed s in
+    let a = received x v option accept in
+    steps ms s x a
+    (wider [] ms (of-none ms) x (a .sides) (byReceipt (a .number)) (session-receives x v option accept))
+
+receives-on-named : (s : TvSides) (v : NamedVerb) (option : ℕ) (accept : Bool) (l : List ℕ) (at : ℕ)
+    → StepsOnLine (5 ∷ 4 ∷ 6 ∷ []) s l at (receiveOnNamed s v option accept l at)
+unfolding receiveOnNamed oneOf
+receives-on-named s NoVerb option accept l at =
+    choice (λ (n : ℕ). StepsOnLine (5 ∷ 4 ∷ 6 ∷ []) s l at (outcome (sentTo s n at) l)) (ltb (length l) at)
+    {x = pastTheEnd} {y = badCommand} (λ _. (tt, refl)) (λ _. (tt, refl))
+receives-on-named s (IsVerb v) option accept l at =
+    let x = sidesNamed s in
+    let o = receivedOn x v option accept l at in
+    let a = o .answer in
+    steps-on-line (5 ∷ 4 ∷ 6 ∷ []) s x l at o
+    (wider _ _ (behind (5 ∷ 4 ∷ []) (6 ∷ [])) {L = Sides × (List ℕ × ℕ)} (x, (l, at)) (a .sides, (o .lent, a .place))
+    (byReceipt (a .number)) (line-receives x v option accept l at))
+
+-- a hash value that is written
+hash-written : (ms : List ℕ) (h : Hash) (out : List ℕ) → T (oneOf ms noRoom) → RefusesBy ms (byNumber (h .refusal))
+    → Writes ms out (hashInto h out)
+unfolding hashInto writeFront
+hash-written ms h out four t =
+    choice (Writes ms out) (eqb (h .refusal) 0)
+    (λ _. choice (Writes ms out) (ltb (length out) (length (h .bytes))) {x = outcome (notWritten noRoom) out}
+    (λ _. (four, refl)) (λ _. tt))
+    (λ _. mapped ms (λ (_ : Unit {0}). out) tt tt (byNumber (h .refusal)) t)
+
+sha-tokens-written : (name password out : List ℕ)
+    → Writes (33 ∷ 34 ∷ 4 ∷ []) out (hashInto (shaToken name password) out)
+unfolding oneOf
+sha-tokens-written name password out =
+    let h = shaToken name password in
+    hash-written _ h out tt
+    (wider _ _ (behind (33 ∷ 34 ∷ []) (4 ∷ [])) {L = Unit {0}} tt tt (byNumber (h .refusal)) (sha-tokens name password))
+
+sha-substitutes-written : (token name : List ℕ) (server client : ℕ) (out : List ℕ)
+    → Writes (31 ∷ 33 ∷ 4 ∷ []) out (substituteInto token name server client out)
+unfolding substituteInto oneOf
+sha-substitutes-written token name server client out =
+    let h = shaSubstitute token name server client in
+    choice (Writes (31 ∷ 33 ∷ 4 ∷ []) out) (eqb (length token) shaLength) {y = outcome (notWritten badProfile) out}
+    (λ _. hash-written _ h out tt
+    (wider _ _ (λ n t. more 31 (33 ∷ 4 ∷ []) n (behind (33 ∷ []) (4 ∷ []) n t)) {L = Unit {0}} tt tt
+    (byNumber (h .refusal)) (sha-substitutes token name server client)))
+    (λ _. (tt, refl))
+
+-- a ledger that is handed over by its number
+module _ (ms : List ℕ) (given l : ℕ) where
+  taken-told : (r : Receipt) → RefusesBy ms (ofReceipt r)
+      → let t = receiptNumbers given l r in Refuses ms given (t .ledger) (byNumber (t .refusal))
+  taken-told Held t = tt
+  taken-told Cleared t = tt
+  taken-told NothingToClear t = tt
+  taken-told (NotTaken n) t = by-own-number ms given given n (t .0, refl)
+
+  completed-told : (out left : List ℕ) (c : Completion) → Refuses ms out left (ofCompletion c)
+      → let t = completionNumbers given l c in
+      Refuses ms {L = ℕ × List ℕ} (given, out) (t .ledger, left) (byNumber (t .refusal))
+  completed-told out left CompletionWritten t = tt
+  completed-told out left (CompletionRefused n) t =
+      by-own-number ms {L = ℕ × List ℕ} (given, out) (given, left) n
+      (mapped ms (λ (m : List ℕ). (given, m)) out left (refusedBy n) t)
+
+pub demand-1-c-holds : Demand1C
+unfolding oneOf
+demand-1-c-holds = record {
+  look = λ s at. told-by ofEvent event-number _ (lookAt s at) (looks s at);
+  read = λ s at out. told-into ofEvent event-number _ out (readAt s at out) (reads s at out);
+  readRecord = λ s at out. told-into ofRecord record-number _ out (recordAt s at out) (reads-records s at out);
+  write = λ what code option payload out. writes-named (kindNamed what code option) payload out;
+  writeNothing = λ what code option payload out h.
+      ap (λ (k : NamedKind). Telnet.writtenNumbers (Telnet.writeNamed k payload out .answer) .refusal)
+      (no-kind what code option .1 h);
+  sidesReceive = λ s code option accept. receives-named _ tt s (verbNamed code) option accept;
+  sidesRequest = λ s ours option on.
+      let x = sidesNamed s in
+      let a = requested x (whoseNamed ours) option (commandNamed on) in
+      steps _ s x a
+      (with-note _ x (a .sides) (a .number) (session-requests x (whoseNamed ours) option (commandNamed on)));
+  optionReceive = λ s code option accept l at. receives-on-named s (verbNamed code) option accept l at;
+  optionRequest = λ s ours option on l at.
+      let x = sidesNamed s in
+      let o = requestedOn x (whoseNamed ours) option (commandNamed on) l at in
+      let a = o .answer in
+      steps-on-line _ s x l at o
+      (with-note _ {L = Sides × (List ℕ × ℕ)} (x, (l, at)) (a .sides, (o .lent, a .place)) (a .number)
+      (line-requests x (whoseNamed ours) option (commandNamed on) l at));
+  optionHear = λ s heard from accept l at.
+      let x = sidesNamed s in
+      steps-on-line _ s x l at (heardOn x heard from accept l at) (line-hears x heard from accept l at);
+  receiveNothing = λ s code option accept h.
+      ap (λ (v : NamedVerb). receiveNamed s v option accept .number) (no-verb code .1 h);
+  envRead = λ p bytes numbers.
+      let d = readInto p bytes numbers in
+      told ofPayload payload-number _ {L = List ℕ × List ℕ} (bytes, numbers) (d .bytes, d .numbers) (d .answer)
+      (reads-payloads p bytes numbers);
+  envWrite = λ first bytes numbers out.
+      told-into ofPayloadWritten payload-written-number _ out (writeInto first bytes numbers out)
+      (writes-payloads first bytes numbers out);
+  list = λ words out. told-into ofListed listed-number _ out (putFront words out) (lists words out);
+  tableCheck = λ t. told-by ofCheck table-number _ (checked (tableOf t)) (checks t);
+  tableFind = λ t name. told-by ofFound found-number _ (foundIn name (tableOf t)) (finds t name);
+  makeRecord = λ m out. told-into ofMade made-number _ out (makeInto m out) (makes m out);
+  desToken = λ name password. told-by ofBlock block-number _ (desToken name password) (des-tokens name password);
+  desSubstitute = λ token name server client.
+      told-by ofBlock block-number _ (desSubstitute token name server client)
+      (des-substitutes token name server client);
+  shaToken = sha-tokens-written;
+  shaSubstitute = sha-substitutes-written;
+  verdict = λ seed t p. told-by ofSignon signon-number _ (answerOf seed t p) (judges seed t p);
+  response = λ fault verdict system device out.
+      let v = verdictNamed verdict in
+      told-into ofResponse response-number _ out (respondInto fault v system device out)
+      (responds fault v system device out);
+  readFrame = λ f. told-by ofFrame frame-number _ (frameOf f) (reads-frames f);
+  ledgerTake = λ ledger f.
+      let l = ledgerNamed ledger in
+      let t = takeFrame l f in
+      taken-told _ ledger (ledgerNumber (t .ledger)) (t .receipt)
+      (numbers-of _ l (t .ledger) (ofReceipt (t .receipt)) (takes l f));
+  ledgerComplete = λ ledger out.
+      let l = ledgerNamed ledger in
+      let o = completeInto l out in
+      let c = o .answer in
+      completed-told _ ledger (ledgerNumber (c .ledger)) out (o .lent) (c .completion)
+      (mapped _ (λ (p : Ledger × List ℕ). p .1) (l, out) (c .ledger, o .lent) (ofCompletion (c .completion))
+      (completes l out));
+}
