@@ -313,7 +313,7 @@ static void print_order(struct end *host, struct end *printer)
 	send_record(host, second, sizeof second);
 	length = read_record(printer, record, sizeof record);
 	end = printer->at;
-	taken = tv_ledger_take(TV_LEDGER_IDLE, record, length);
+	taken = tv_ledger_take(tv_ledger_fresh(), record, length);
 	if (taken.refusal)
 		die("ledger", taken.refusal);
 	printf(taken.receipt == TV_RECEIPT_HELD ? ": held" : ": not held");

@@ -972,9 +972,9 @@ static tv_frame_t read_frame(const uint8_t *frame, size_t length)
 	return f;
 }
 
-static uint8_t take(uint8_t ledger)
+static tv_ledger_t take(tv_ledger_t ledger)
 {
-	uint8_t frame[80], held = ledger == TV_LEDGER_HOLDING;
+	uint8_t frame[80], held = ledger.held == TV_LEDGER_HOLDING;
 	size_t length = fill_frame(frame);
 	tv_frame_t f = read_frame(frame, length);
 	struct slice s = give(0, frame, length);
@@ -982,29 +982,29 @@ static uint8_t take(uint8_t ledger)
 
 	given_as_were();
 	if (!counted(LEDGER_TAKE, t.refusal)) {
-		CHECK(!t.receipt && t.ledger == ledger);
+		CHECK(!t.receipt && t.ledger.held == ledger.held);
 		CHECK(t.refusal == (f.refusal ? f.refusal : f.direction == TV_INBOUND ? 52 : 50));
 	} else if (f.operation == TV_OPERATION_PRINT) {
-		CHECK(t.receipt == TV_RECEIPT_HELD && t.ledger == TV_LEDGER_HOLDING && !held);
+		CHECK(t.receipt == TV_RECEIPT_HELD && t.ledger.held == TV_LEDGER_HOLDING && !held);
 	} else {
-		CHECK(t.receipt == (held ? TV_RECEIPT_CLEARED : TV_RECEIPT_NOTHING_TO_CLEAR) && t.ledger == TV_LEDGER_IDLE);
+		CHECK(t.receipt == (held ? TV_RECEIPT_CLEARED : TV_RECEIPT_NOTHING_TO_CLEAR) && t.ledger.held == TV_LEDGER_IDLE);
 	}
 	return t.ledger;
 }
 
-static uint8_t complete(uint8_t ledger)
+static tv_ledger_t complete(tv_ledger_t ledger)
 {
 	size_t room = room_near(TV_COMPLETE_LENGTH);
-	uint8_t *out = lend(&out_room, room), held = ledger == TV_LEDGER_HOLDING;
+	uint8_t *out = lend(&out_room, room), held = ledger.held == TV_LEDGER_HOLDING;
 	tv_completed_t c = tv_ledger_complete(ledger, out, room);
 
 	only_front(&out_room, c.length);
 	if (!counted(LEDGER_COMPLETE, c.refusal)) {
-		CHECK(!c.length && c.ledger == ledger && c.refusal == (held ? 4 : 51));
+		CHECK(!c.length && c.ledger.held == ledger.held && c.refusal == (held ? 4 : 51));
 		return c.ledger;
 	}
 	uint8_t frame[TV_COMPLETE_LENGTH];
-	CHECK(held && c.ledger == TV_LEDGER_IDLE && c.length == TV_COMPLETE_LENGTH);
+	CHECK(held && c.ledger.held == TV_LEDGER_IDLE && c.length == TV_COMPLETE_LENGTH);
 	memcpy(frame, out, sizeof frame);
 	tv_frame_t f = read_frame(frame, sizeof frame);
 	CHECK(!f.refusal && f.direction == TV_INBOUND && f.operation == TV_OPERATION_PRINT);
@@ -1013,8 +1013,12 @@ static uint8_t complete(uint8_t ledger)
 
 static void try_print(void)
 {
-	uint8_t ledger = (uint8_t)(one_in(8) ? any() : TV_LEDGER_IDLE);
+	tv_ledger_t ledger = tv_ledger_fresh();
 
+	counted(LEDGER_FRESH, 0);
+	CHECK(ledger.held == TV_LEDGER_IDLE);
+	if (one_in(8))
+		ledger.held = (uint8_t)any();
 	for (size_t i = 1 + below(8); i; i--)
 		ledger = one_in(3) ? complete(ledger) : take(ledger);
 }

@@ -198,15 +198,20 @@ static void read_frame(void)
 	tv_read_frame(frame, sizeof frame);
 }
 
+static void ledger_fresh(void)
+{
+	tv_ledger_fresh();
+}
+
 static void ledger_take(void)
 {
-	tv_ledger_take(TV_LEDGER_IDLE, frame, sizeof frame);
-	tv_ledger_take(TV_LEDGER_HOLDING, frame, sizeof frame);
+	tv_ledger_take((tv_ledger_t){TV_LEDGER_IDLE}, frame, sizeof frame);
+	tv_ledger_take((tv_ledger_t){TV_LEDGER_HOLDING}, frame, sizeof frame);
 }
 
 static void ledger_complete(void)
 {
-	tv_ledger_complete(TV_LEDGER_HOLDING, out, sizeof out);
+	tv_ledger_complete((tv_ledger_t){TV_LEDGER_HOLDING}, out, sizeof out);
 }
 
 static const struct measure {
@@ -239,6 +244,7 @@ static const struct measure {
 	{"tv_verdict", verdict, TV_STACK_VERDICT},
 	{"tv_response", response, TV_STACK_RESPONSE},
 	{"tv_read_frame", read_frame, TV_STACK_READ_FRAME},
+	{"tv_ledger_fresh", ledger_fresh, TV_STACK_LEDGER_FRESH},
 	{"tv_ledger_take", ledger_take, TV_STACK_LEDGER_TAKE},
 	{"tv_ledger_complete", ledger_complete, TV_STACK_LEDGER_COMPLETE},
 };

@@ -662,7 +662,7 @@ extern tv_written_t tv_response(bool device_fault, uint8_t verdict,
 
 /*
  * Printer frames and the ledger, which holds at most one record that the
- * device has not printed yet. The caller keeps its number.
+ * device has not printed yet. The caller keeps it.
  */
 
 #define TV_OUTBOUND 1 /* from the server */
@@ -672,8 +672,8 @@ extern tv_written_t tv_response(bool device_fault, uint8_t verdict,
 #define TV_OPERATION_CLEAR 2
 
 /*
- * The ledger. Another number reads as TV_LEDGER_IDLE, where it begins; a call
- * that refuses hands it back as it was given.
+ * Whether the ledger holds a record. Another number reads as TV_LEDGER_IDLE,
+ * where it begins; a call that refuses hands it back as it was given.
  */
 #define TV_LEDGER_IDLE 0
 #define TV_LEDGER_HOLDING 1
@@ -703,16 +703,21 @@ typedef struct tv_frame {
 	size_t data_length;
 } tv_frame_t;
 
+/* The ledger. At first it is what tv_ledger_fresh hands out. */
+typedef struct tv_ledger {
+	uint8_t held; /* 1 or 0; another number reads as 0 */
+} tv_ledger_t;
+
 /* The ledger after a frame. */
 typedef struct tv_taken {
-	uint8_t ledger;
+	tv_ledger_t ledger;
 	uint8_t refusal;
 	uint8_t receipt; /* TV_RECEIPT_... */
 } tv_taken_t;
 
 /* The ledger after a completion. */
 typedef struct tv_completed {
-	uint8_t ledger;
+	tv_ledger_t ledger;
 	uint8_t refusal;
 	size_t length; /* how many bytes were written */
 } tv_completed_t;
@@ -721,12 +726,16 @@ typedef struct tv_completed {
 #define TV_STACK_READ_FRAME 512
 extern tv_frame_t tv_read_frame(const uint8_t *frame, size_t frame_length);
 
+/* A ledger that holds nothing: what a session begins with. Never refused. */
+#define TV_STACK_LEDGER_FRESH 512
+extern tv_ledger_t tv_ledger_fresh(void);
+
 /*
  * The ledger is given a frame from the line. Only TV_RECEIPT_HELD is printed.
  * Refused by 40 to 45, 52 and 50.
  */
 #define TV_STACK_LEDGER_TAKE 512
-extern tv_taken_t tv_ledger_take(uint8_t ledger,
+extern tv_taken_t tv_ledger_take(tv_ledger_t ledger,
 		const uint8_t *frame, size_t frame_length);
 
 /*
@@ -736,7 +745,7 @@ extern tv_taken_t tv_ledger_take(uint8_t ledger,
  * Refused by 51 and 4; after 4 the record is held still.
  */
 #define TV_STACK_LEDGER_COMPLETE 512
-extern tv_completed_t tv_ledger_complete(uint8_t ledger,
+extern tv_completed_t tv_ledger_complete(tv_ledger_t ledger,
 		uint8_t *out, size_t out_length);
 
 /*
@@ -839,6 +848,9 @@ TV_AT(tv_frame_t, diagnostics_at, 16);
 TV_AT(tv_frame_t, diagnostics_length, 24);
 TV_AT(tv_frame_t, data_at, 32);
 TV_AT(tv_frame_t, data_length, 40);
+
+TV_LAYOUT(sizeof(tv_ledger_t) == 1);
+TV_AT(tv_ledger_t, held, 0);
 
 TV_LAYOUT(sizeof(tv_taken_t) == 3);
 TV_AT(tv_taken_t, ledger, 0);

@@ -83,7 +83,8 @@ use Rattle.export_profile.specs.Numbers.{tableNumbers, foundNumbers, madeNumber
 use Rattle.export_password.specs.Numbers.{shaLength, blockNumbers, hashInto, substituteInto}
 use Rattle.export_signon.specs.Numbers as Signon
 use Rattle.export_signon.specs.Numbers.{verdictNamed, answerNumbers}
-use Rattle.export_print.specs.Numbers.{frameNumbers, ledgerNumber, ledgerNamed, receiptNumbers, completionNumbers}
+use Rattle.export_print.specs.declared.TvLedger.{TvLedger}
+use Rattle.export_print.specs.Numbers.{frameNumbers, ledgerNumbers, ledgerNamed, receiptNumbers, completionNumbers}
 use Rattle.claims.specs.Refusals.{Refusal, noRefusal, refusedBy, oneOf, Refuses, byNumber, byReceipt, ofEvent}
 use Rattle.claims.specs.Refusals.{ofRecord, ofEventWritten, ofListed, ofPayload, ofPayloadWritten, ofFrame}
 use Rattle.claims.specs.Refusals.{ofReceipt, ofCompletion, ofBlock, ofCheck, ofFound, ofMade, ofSignon}
@@ -284,8 +285,8 @@ sha-substitutes-written token name server client out =
     (byNumber (h .refusal)) (sha-substitutes token name server client)))
     (λ _. (tt, refl))
 
--- a ledger that is handed over by its number
-module _ (ms : List ℕ) (given l : ℕ) where
+-- a ledger that is handed over by its numbers
+module _ (ms : List ℕ) (given l : TvLedger) where
   taken-told : (r : Receipt) → RefusesBy ms (ofReceipt r)
       → let t = receiptNumbers given l r in Refuses ms given (t .ledger) (byNumber (t .refusal))
   taken-told Held t = tt
@@ -295,10 +296,10 @@ module _ (ms : List ℕ) (given l : ℕ) where
 
   completed-told : (out left : List ℕ) (c : Completion) → Refuses ms out left (ofCompletion c)
       → let t = completionNumbers given l c in
-      Refuses ms {L = ℕ × List ℕ} (given, out) (t .ledger, left) (byNumber (t .refusal))
+      Refuses ms {L = TvLedger × List ℕ} (given, out) (t .ledger, left) (byNumber (t .refusal))
   completed-told out left CompletionWritten t = tt
   completed-told out left (CompletionRefused n) t =
-      by-own-number ms {L = ℕ × List ℕ} (given, out) (given, left) n
+      by-own-number ms {L = TvLedger × List ℕ} (given, out) (given, left) n
       (mapped ms (λ (m : List ℕ). (given, m)) out left (refusedBy n) t)
 
 pub demand-1-c-holds : Demand1C
@@ -356,13 +357,13 @@ demand-1-c-holds = record {
   ledgerTake = λ ledger f.
       let l = ledgerNamed ledger in
       let t = takeFrame l f in
-      taken-told _ ledger (ledgerNumber (t .ledger)) (t .receipt)
+      taken-told _ ledger (ledgerNumbers (t .ledger)) (t .receipt)
       (numbers-of _ l (t .ledger) (ofReceipt (t .receipt)) (takes l f));
   ledgerComplete = λ ledger out.
       let l = ledgerNamed ledger in
       let o = completeInto l out in
       let c = o .answer in
-      completed-told _ ledger (ledgerNumber (c .ledger)) out (o .lent) (c .completion)
+      completed-told _ ledger (ledgerNumbers (c .ledger)) out (o .lent) (c .completion)
       (mapped _ (λ (p : Ledger × List ℕ). p .1) (l, out) (c .ledger, o .lent) (ofCompletion (c .completion))
       (completes l out));
 }

@@ -42,7 +42,7 @@ writer-order first bytes numbers out =
 
 ledger-order : LedgerOrder
 unfolding takeFrame
-ledger-order = record { frame = λ l f n e. rw e; inbound = λ l f x e d. rw (e, d); held = λ f x e d o. rw (e, d, o) }
+ledger-order = record { frame = λ l f n e. rw e; inbound = λ l f x e d. rw (e, d); held = λ l f x h e d o. rw (e, d, o, h) }
 
 verdict-order : (seed table payload : List ℕ) → VerdictOrder seed table payload
 unfolding answerOf answerBy

@@ -51,7 +51,6 @@ use Rattle.signon.specs.declared.Verdict.{Verdict}
 use Rattle.startup.specs.Response.{responseOf}
 use Rattle.startup_record.specs.Promise.{respondInto}
 use Rattle.print_ledger.specs.declared.Ledger.{Ledger}
-use Rattle.print_ledger.specs.declared.Ledger.the-variants.{Idle, Holding}
 use Rattle.print_ledger.specs.declared.Completed.{Completed}
 use Rattle.print_ledger.specs.Ledger.{printComplete, completeInto}
 use Rattle.claims.specs.Refusals.{Refusal, noRefusal, refusedBy, oneOf, ofEvent, ofRecord, ofEventWritten}
@@ -247,8 +246,9 @@ completion c = ofCompletion (c .completion)
 
 completes : (l : Ledger) → OneBuffer (λ out. told completion (completeInto l out))
 unfolding completeInto
-completes Idle = fixed (refusedBy 51) (omega arith) (λ _. refl)
-completes Holding = one-buffer (told completion) (length printComplete) (λ _. refl) (λ _. refl)
+completes l =
+    walked (told completion) (not (l .held)) (fixed (refusedBy 51) (omega arith) (λ _. refl))
+    (one-buffer (told completion) (length printComplete) (λ _. refl) (λ _. refl))
 
 pub four-last : FourLast
 four-last = record {

@@ -34,11 +34,11 @@ use Rattle.print_frame.specs.declared.Direction.{Direction}
 use Rattle.print_frame.specs.declared.Direction.the-variants.{Outbound, Inbound}
 use Rattle.print_frame.specs.declared.Operation.{Operation}
 use Rattle.print_frame.specs.declared.Operation.the-variants.{Print, Clear}
+use Rattle.print_frame.specs.declared.Frame.{Frame}
 use Rattle.print_frame.specs.declared.FrameAnswer.{FrameAnswer}
 use Rattle.print_frame.specs.declared.FrameAnswer.the-variants.{Read, Refused}
 use Rattle.print_frame.specs.Frame.{byte, identifier, dataFlow, structureLength, headerLength, dataPlace, isFlow, isReserved, isOperation, said, headerOf, frameOf}
 use Rattle.print_ledger.specs.declared.Ledger.{Ledger}
-use Rattle.print_ledger.specs.declared.Ledger.the-variants.{Idle, Holding}
 use Rattle.print_ledger.specs.declared.Receipt.the-variants.{Refused as NotTaken}
 use Rattle.print_ledger.specs.declared.Taken.{Taken}
 use Rattle.print_ledger.specs.declared.Completed.{Completed}
@@ -177,21 +177,19 @@ abbrev TakenBy : Ledger → Taken → Type 0
 TakenBy l t = Refuses (52 ∷ 50 ∷ frame) l (t .ledger) (ofReceipt (t .receipt))
 
 -- by what a frame asks
-by-direction : (l : Ledger) (d : Direction) (o : Operation) → TakenBy l (elim d [
+by-direction : (l : Ledger) (f : Frame) (d : Direction) (o : Operation) → TakenBy l (elim d [
   | Inbound ↦ afterFrame l (NotTaken inboundFrame)
-  | Outbound ↦ elim o [ Print ↦ printed l | Clear ↦ cleared l ]
+  | Outbound ↦ elim o [ Print ↦ printed l f | Clear ↦ cleared l f ]
 ])
 unfolding oneOf
-by-direction l Inbound o = (tt, refl)
-by-direction Idle Outbound Print = tt
-by-direction Holding Outbound Print = (tt, refl)
-by-direction Idle Outbound Clear = tt
-by-direction Holding Outbound Clear = tt
+by-direction l f Inbound o = (tt, refl)
+by-direction l f Outbound Print = choice (TakenBy l) (l .held) (λ _. (tt, refl)) (λ _. tt)
+by-direction l f Outbound Clear = choice (TakenBy l) (l .held) (λ _. tt) (λ _. tt)
 
 taken-by : (l : Ledger) (a : FrameAnswer) → FrameBy a → TakenBy l (answered l a)
 unfolding oneOf
 taken-by l (Refused n) t = (more 52 (50 ∷ frame) n (more 50 frame n (t .0)), refl)
-taken-by l (Read f) t = by-direction l (f .direction) (f .operation)
+taken-by l (Read f) t = by-direction l f (f .direction) (f .operation)
 
 pub takes : (l : Ledger) (f : List ℕ) → TakenBy l (takeFrame l f)
 unfolding takeFrame
@@ -202,5 +200,6 @@ CompletedBy l out o = Refuses (51 ∷ 4 ∷ []) {L = Ledger × List ℕ} (l, out
 
 pub completes : (l : Ledger) (out : List ℕ) → CompletedBy l out (completeInto l out)
 unfolding completeInto oneOf
-completes Idle out = (tt, refl)
-completes Holding out = choice (CompletedBy Holding out) (ltb (length out) (length printComplete)) (λ _. (tt, refl)) (λ _. tt)
+completes l out =
+    choice (CompletedBy l out) (not (l .held)) (λ _. (tt, refl))
+    (λ _. choice (CompletedBy l out) (ltb (length out) (length printComplete)) (λ _. (tt, refl)) (λ _. tt))

@@ -1,6 +1,6 @@
 -- Demand 1 at the boundary to C: the calls `tv_..` are the entry points of a gateway in C, over the definitions that their promises equal. Each refuses by numbers
--- of its own, and then leaves every buffer and list as it was, and hands back sides, ledger and place by the numbers that were given. `tv_sides_fresh` and
--- `tv_env_value` refuse nothing.
+-- of its own, and then leaves every buffer and list as it was, and hands back sides, ledger and place by the numbers that were given. `tv_sides_fresh`,
+-- `tv_env_value` and `tv_ledger_fresh` refuse nothing.
 use Prim.Native.Nat.{ℕ, _<_}
 use mathlib.Core.Path.{_≡_}
 use mathlib.Core.Bool.{Bool}
@@ -37,6 +37,7 @@ use Rattle.export_profile.specs.Numbers.{tableNumbers, foundNumbers, madeNumber
 use Rattle.export_password.specs.Numbers.{blockNumbers, hashInto, substituteInto}
 use Rattle.export_signon.specs.Numbers as Signon
 use Rattle.export_signon.specs.Numbers.{verdictNamed, answerNumbers}
+use Rattle.export_print.specs.declared.TvLedger.{TvLedger}
 use Rattle.export_print.specs.Numbers.{frameNumbers, ledgerNamed, takenNumbers, completedNumbers}
 use Rattle.claims.specs.Refusals.{Refusal, Refuses, byNumber, byReceipt}
 use Rattle.claims.specs.Demand1.{line, payload, frame, table, RefusesBy}
@@ -106,8 +107,8 @@ pub record Demand1C : Type 0 where
       → Writes (36 ∷ 4 ∷ []) out (numbered Signon.writtenNumbers (respondInto fault (verdictNamed verdict) system device out))
   -- tv_read_frame, tv_ledger_take, tv_ledger_complete
   pub readFrame : (f : List ℕ) → RefusesBy frame (byNumber (frameNumbers (frameOf f) .refusal))
-  pub ledgerTake : (ledger : ℕ) (f : List ℕ)
+  pub ledgerTake : (ledger : TvLedger) (f : List ℕ)
       → let t = takenNumbers ledger (takeFrame (ledgerNamed ledger) f) in Refuses (52 ∷ 50 ∷ frame) ledger (t .ledger) (byNumber (t .refusal))
-  pub ledgerComplete : (ledger : ℕ) (out : List ℕ)
+  pub ledgerComplete : (ledger : TvLedger) (out : List ℕ)
       → let o = numbered (completedNumbers ledger) (completeInto (ledgerNamed ledger) out) in
-      Refuses (51 ∷ 4 ∷ []) {L = ℕ × List ℕ} (ledger, out) (o .answer .ledger, o .lent) (byNumber (o .answer .refusal))
+      Refuses (51 ∷ 4 ∷ []) {L = TvLedger × List ℕ} (ledger, out) (o .answer .ledger, o .lent) (byNumber (o .answer .refusal))

@@ -52,7 +52,6 @@ use Rattle.print_frame.specs.declared.FrameAnswer.the-variants.{Read as ReadFra
 use Rattle.print_frame.specs.Frame.{frameOf}
 use Rattle.print_frame.specs.Theorems.{FrameIsItsSentence}
 use Rattle.print_ledger.specs.declared.Ledger.{Ledger}
-use Rattle.print_ledger.specs.declared.Ledger.the-variants.{Holding}
 use Rattle.print_ledger.specs.declared.Receipt.the-variants.{Refused as NotTaken}
 use Rattle.print_ledger.specs.Ledger.{takeFrame, completeInto}
 use Rattle.claims.specs.Refusals.{Refusal, noRefusal, refusedBy, oneOf, ofEvent, ofRecord, ofEventWritten, ofPayload, ofPayloadWritten, ofMade, ofResponse, ofCompletion}
@@ -116,7 +115,8 @@ pub record WriterOrder (first : ℕ) (bytes numbers out : List ℕ) : Type 0 whe
 pub record LedgerOrder : Type 0 where
   pub frame : (l : Ledger) (f : List ℕ) (n : ℕ) → frameOf f ≡ FrameRefused n → takeFrame l f .receipt ≡ NotTaken n
   pub inbound : (l : Ledger) (f : List ℕ) (x : Frame) → frameOf f ≡ ReadFrame x → x .direction ≡ Inbound → takeFrame l f .receipt ≡ NotTaken 52
-  pub held : (f : List ℕ) (x : Frame) → frameOf f ≡ ReadFrame x → x .direction ≡ Outbound → x .operation ≡ Print → takeFrame Holding f .receipt ≡ NotTaken 50
+  pub held : (l : Ledger) (f : List ℕ) (x : Frame) → l .held ≡ true → frameOf f ≡ ReadFrame x → x .direction ≡ Outbound → x .operation ≡ Print
+      → takeFrame l f .receipt ≡ NotTaken 50
 
 -- "Verdicts: 35, 30 to 32, 3, 20 to 25": by the seed, then by the table, then by the payload.
 pub record VerdictOrder (seed table payload : List ℕ) : Type 0 where

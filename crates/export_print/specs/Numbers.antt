@@ -1,7 +1,8 @@
--- The numbers of what a printer frame says and of what the ledger answers, and the ledger that a number names.
+-- The numbers of what a printer frame says and of what the ledger answers, and the ledger that numbers name.
 use mathlib.Core.Path.{_≡_}
 use mathlib.Core.Logic.{_↔_}
 use Prim.Native.Nat.{ℕ}
+use mathlib.Core.Bool.{true, false}
 use lib.Dec.{eqb}
 use lib.ListN.{length}
 use Rattle.print_frame.specs.declared.Direction.{Direction}
@@ -12,7 +13,6 @@ use Rattle.print_frame.specs.declared.Frame.{Frame}
 use Rattle.print_frame.specs.declared.FrameAnswer.{FrameAnswer}
 use Rattle.print_frame.specs.declared.FrameAnswer.the-variants.{Read, Refused}
 use Rattle.print_ledger.specs.declared.Ledger.{Ledger}
-use Rattle.print_ledger.specs.declared.Ledger.the-variants.{Idle, Holding}
 use Rattle.print_ledger.specs.declared.Receipt.{Receipt}
 use Rattle.print_ledger.specs.declared.Receipt.the-variants.{Held, Cleared, NothingToClear, Refused as NotTaken}
 use Rattle.print_ledger.specs.declared.Taken.{Taken}
@@ -21,10 +21,10 @@ use Rattle.print_ledger.specs.declared.Completion.the-variants.{Written, Refuse
 use Rattle.print_ledger.specs.declared.Completed.{Completed}
 use Rattle.print_ledger.specs.Ledger.{printComplete}
 use Rattle.export_print.specs.declared.TvFrame.{TvFrame}
+use Rattle.export_print.specs.declared.TvLedger.{TvLedger}
 use Rattle.export_print.specs.declared.TvTaken.{TvTaken}
 use Rattle.export_print.specs.declared.TvCompleted.{TvCompleted}
 use Rattle.export.specs.Numbers.{mark}
-use Rattle.octets.specs.Choice.{if_then_else_}
 
 -- the low byte of the data flow, and the operation code
 abbrev pub directionNumber : Direction → ℕ
@@ -74,40 +74,39 @@ abbrev pub frameNumbers : FrameAnswer → TvFrame
 frameNumbers (Read f) = readNumbers f
 frameNumbers (Refused r) = noFrame r
 
-abbrev pub ledgerNumber : Ledger → ℕ
-ledgerNumber Idle = 0
-ledgerNumber Holding = 1
+abbrev pub ledgerNumbers : Ledger → TvLedger
+ledgerNumbers l = record { held = mark (l .held) }
 
--- the ledger that a number names; any other number is read as idle
-unfoldable pub ledgerNamed : ℕ → Ledger
-ledgerNamed n = if eqb n 1 then Holding else Idle
+-- the ledger that numbers name; any other number than 1 is read as none held
+unfoldable pub ledgerNamed : TvLedger → Ledger
+ledgerNamed t = record { held = eqb (t .held) 1 }
 
-abbrev pub took : (ledger refusal receipt : ℕ) → TvTaken
+abbrev pub took : TvLedger → (refusal receipt : ℕ) → TvTaken
 took l r k = record { ledger = l; refusal = r; receipt = k }
 
--- what became of a frame, with the ledger's number; a refusal hands back the one that was given
-abbrev pub receiptNumbers : (given ledger : ℕ) → Receipt → TvTaken
+-- what became of a frame, with the ledger's numbers; a refusal hands back those that were given
+abbrev pub receiptNumbers : (given ledger : TvLedger) → Receipt → TvTaken
 receiptNumbers given l Held = took l 0 1
 receiptNumbers given l Cleared = took l 0 2
 receiptNumbers given l NothingToClear = took l 0 3
 receiptNumbers given l (NotTaken r) = took given r 0
 
-abbrev pub takenNumbers : (given : ℕ) → Taken → TvTaken
-takenNumbers given t = receiptNumbers given (ledgerNumber (t .ledger)) (t .receipt)
+abbrev pub takenNumbers : (given : TvLedger) → Taken → TvTaken
+takenNumbers given t = receiptNumbers given (ledgerNumbers (t .ledger)) (t .receipt)
 
-abbrev pub completed : (ledger refusal length : ℕ) → TvCompleted
+abbrev pub completed : TvLedger → (refusal length : ℕ) → TvCompleted
 completed l r n = record { ledger = l; refusal = r; length = n }
 
--- whether the record was written, with the ledger's number; a refusal hands back the one that was given
-abbrev pub completionNumbers : (given ledger : ℕ) → Completion → TvCompleted
+-- whether the record was written, with the ledger's numbers; a refusal hands back those that were given
+abbrev pub completionNumbers : (given ledger : TvLedger) → Completion → TvCompleted
 completionNumbers given l Written = completed l 0 (length printComplete)
 completionNumbers given l (NotWritten r) = completed given r 0
 
-abbrev pub completedNumbers : (given : ℕ) → Completed → TvCompleted
-completedNumbers given c = completionNumbers given (ledgerNumber (c .ledger)) (c .completion)
+abbrev pub completedNumbers : (given : TvLedger) → Completed → TvCompleted
+completedNumbers given c = completionNumbers given (ledgerNumbers (c .ledger)) (c .completion)
 
--- Which ledger a number names: 1 a holding one, every other an idle one; and the number of a ledger names it.
+-- Which ledger numbers name: 1 a holding one, every other an idle one; and the numbers of a ledger name it.
 pub record LedgerNamed : Type 0 where
-  pub back : (l : Ledger) → ledgerNamed (ledgerNumber l) ≡ l
-  pub holding : (n : ℕ) → (ledgerNamed n ≡ Holding) ↔ (n ≡ 1)
-  pub idle : (n : ℕ) → (n ≡ 1 → ⊥) → ledgerNamed n ≡ Idle
+  pub back : (l : Ledger) → ledgerNamed (ledgerNumbers l) ≡ l
+  pub holding : (t : TvLedger) → (ledgerNamed t .held ≡ true) ↔ (t .held ≡ 1)
+  pub idle : (t : TvLedger) → (t .held ≡ 1 → ⊥) → ledgerNamed t .held ≡ false

@@ -1,12 +1,12 @@
 // Printer frames and the print ledger, for a caller in C. Each function answers with numbers: which number stands for what is said at the structs and in
 // `specs/Numbers.antt`. A `refusal` is 0 where there is none; else it is the refusal's number, and every other field is 0, but that the ledger is handed
-// back by the number that was given. A slice is a pointer and a length.
+// back by the numbers that were given. A slice is a pointer and a length.
 ghost use mathlib.Core.Path.{_≡_};
-ghost use Rattle.export_print.specs.Numbers.{directionNumber, operationNumber, readNumbers, frameNumbers, ledgerNumber, ledgerNamed};
+ghost use Rattle.export_print.specs.Numbers.{directionNumber, operationNumber, readNumbers, frameNumbers, ledgerNumbers, ledgerNamed};
 ghost use Rattle.export_print.specs.Numbers.{takenNumbers, completedNumbers, LedgerNamed};
 ghost use Rattle.export.specs.Numbers.{numbered};
 ghost use Rattle.print_frame.specs.Frame.{frameOf};
-ghost use Rattle.print_ledger.specs.Ledger.{takeFrame, completeInto};
+ghost use Rattle.print_ledger.specs.Ledger.{fresh, takeFrame, completeInto};
 ghost use Rattle.octets.specs.Lent.{outcome};
 use export::mark;
 use print_frame::Direction;
@@ -38,11 +38,17 @@ pub struct TvFrame {
     pub data_length: usize,
 }
 
-// The ledger after a frame, 0 idle and 1 holding, and what became of the frame: `receipt` is 1 where its record is held, 2 where a clear found a record held,
+// The ledger: `held` is 1 where a record is held and 0 where none is. Another number reads as 0.
+#[repr(C)]
+pub struct TvLedger {
+    pub held: u8,
+}
+
+// The ledger after a frame, and what became of the frame: `receipt` is 1 where its record is held, 2 where a clear found a record held,
 // 3 where it found none.
 #[repr(C)]
 pub struct TvTaken {
-    pub ledger: u8,
+    pub ledger: TvLedger,
     pub refusal: u8,
     pub receipt: u8,
 }
@@ -50,7 +56,7 @@ pub struct TvTaken {
 // The ledger after a completion, and how many bytes were written.
 #[repr(C)]
 pub struct TvCompleted {
-    pub ledger: u8,
+    pub ledger: TvLedger,
     pub refusal: u8,
     pub length: usize,
 }
@@ -121,31 +127,29 @@ fn frame_numbers(answer: FrameAnswer) -> TvFrame
     }
 }
 
-fn ledger_number(ledger: Ledger) -> u8
-    ensures { λ r. ⌜ r ≡ ledgerNumber ledger ⌝ }
+fn ledger_numbers(ledger: Ledger) -> TvLedger
+    ensures { λ r. ⌜ r ≡ ledgerNumbers ledger ⌝ }
 {
-    match ledger {
-        Ledger::Idle => 0,
-        Ledger::Holding => 1,
+    TvLedger {
+        held: mark(ledger.held),
     }
 }
 
-fn ledger_named(number: u8) -> Ledger
-    ensures { λ r. ⌜ r ≡ ledgerNamed number ⌝ }
+fn ledger_named(ledger: TvLedger) -> Ledger
+    ensures { λ r. ⌜ r ≡ ledgerNamed ledger ⌝ }
 {
-    if number == 1 {
-        return Ledger::Holding;
+    Ledger {
+        held: ledger.held == 1,
     }
-    Ledger::Idle
 }
 
-// What became of a frame; `given` is the number that the caller gave for the ledger.
-fn taken_numbers(given: u8, taken: Taken) -> TvTaken
+// What became of a frame; `given` is the ledger that the caller gave.
+fn taken_numbers(given: TvLedger, taken: Taken) -> TvTaken
     ensures { λ r. ⌜ r ≡ takenNumbers given taken ⌝ }
 {
     let state = taken.ledger;
     let receipt = taken.receipt;
-    let ledger = ledger_number(state);
+    let ledger = ledger_numbers(state);
     match receipt {
         Receipt::Held => TvTaken {
             ledger,
@@ -170,12 +174,12 @@ fn taken_numbers(given: u8, taken: Taken) -> TvTaken
     }
 }
 
-fn completed_numbers(given: u8, completed: Completed) -> TvCompleted
+fn completed_numbers(given: TvLedger, completed: Completed) -> TvCompleted
     ensures { λ r. ⌜ r ≡ completedNumbers given completed ⌝ }
 {
     let state = completed.ledger;
     let completion = completed.completion;
-    let ledger = ledger_number(state);
+    let ledger = ledger_numbers(state);
     match completion {
         Completion::Written => TvCompleted {
             ledger,
@@ -190,7 +194,7 @@ fn completed_numbers(given: u8, completed: Completed) -> TvCompleted
     }
 }
 
-// Which ledger a number names.
+// Which ledger numbers name.
 pub fn ledgers_named()
     ensures { λ _. ⌜ LedgerNamed ⌝ }
 {}
@@ -203,18 +207,26 @@ pub extern "C" fn tv_read_frame(frame: &[u8]) -> TvFrame
     frame_numbers(print_frame::read_frame(frame))
 }
 
-// The ledger is given a frame from the line. A ledger's number above 1 reads as 0; a refusal hands it back as it was given. Refused by 40 to 45, 52 and 50.
+// A ledger that holds nothing.
 #[no_mangle]
-pub extern "C" fn tv_ledger_take(ledger: u8, frame: &[u8]) -> TvTaken
+pub extern "C" fn tv_ledger_fresh() -> TvLedger
+    ensures { λ r. ⌜ r ≡ ledgerNumbers fresh ⌝ }
+{
+    ledger_numbers(Ledger::fresh())
+}
+
+// The ledger is given a frame from the line. A number above 1 reads as 0; a refusal hands the ledger back as it was given. Refused by 40 to 45, 52 and 50.
+#[no_mangle]
+pub extern "C" fn tv_ledger_take(ledger: TvLedger, frame: &[u8]) -> TvTaken
     ensures { λ r. ⌜ r ≡ takenNumbers ledger (takeFrame (ledgerNamed ledger) (now (frame .entry))) ⌝ }
 {
     taken_numbers(ledger, ledger_named(ledger).take_frame(frame))
 }
 
-// The device has printed what is held: the print complete record goes to the front of `out`, and the ledger is idle. A ledger's number above 1 reads as 0;
-// a refusal hands it back as it was given. Refused by 51 and 4.
+// The device has printed what is held: the print complete record goes to the front of `out`, and the ledger is idle. A number above 1 reads as 0; a
+// refusal hands the ledger back as it was given. Refused by 51 and 4.
 #[no_mangle]
-pub extern "C" fn tv_ledger_complete(ledger: u8, out: &mut [u8]) -> TvCompleted
+pub extern "C" fn tv_ledger_complete(ledger: TvLedger, out: &mut [u8]) -> TvCompleted
     ensures { λ r. ⌜ outcome r (now (out .exit)) ≡ numbered (completedNumbers ledger) (completeInto (ledgerNamed ledger) (now (out .entry))) ⌝ }
 {
     completed_numbers(ledger, ledger_named(ledger).complete(out))

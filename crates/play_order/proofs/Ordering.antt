@@ -1,5 +1,6 @@
 -- The order sent, by what the sending of each part answers and leaves; and what a completion sends. Assumes nothing.
 use mathlib.Core.Path.{_≡_, refl, ap, ap₂, sym, _∙_}
+use mathlib.Core.Bool.{Bool, true, false}
 use mathlib.Core.List.{List, []}
 use Prim.Native.Nat.{ℕ}
 use native.Mathlib.Omega.{arith}
@@ -9,7 +10,6 @@ use Rattle.octets.specs.Lent.{Outcome, outcome, overwrite}
 use Rattle.telnet.specs.declared.Verb.the-variants.{Do}
 use Rattle.telnet.specs.Event.{negotiation}
 use Rattle.print_ledger.specs.declared.Ledger.{Ledger}
-use Rattle.print_ledger.specs.declared.Ledger.the-variants.{Idle, Holding}
 use Rattle.print_ledger.specs.declared.Completion.the-variants.{Written, Refused}
 use Rattle.print_ledger.specs.declared.Completed.{Completed}
 use Rattle.print_ledger.specs.Ledger.{completeInto}
@@ -23,18 +23,30 @@ order-sent line at first between second =
     let all = second ∙ ap (λ (o : Outcome ℕ). sentAll (recordEvents secondRun) (o .lent) (o .answer)) (between ∙ ap (λ (o : Outcome ℕ). sentAt (negotiation Do timingMark) (o .lent) (o .answer)) first) in
     ap₂ outcome (ap (λ (o : Outcome ℕ). o .answer) first) (ap (λ (o : Outcome ℕ). o .lent) all)
 
+-- a ledger by whether a record is held
+abbrev marked : Bool → Ledger
+marked h = record { held = h }
+
 -- a completion that wrote the record had one held, and one that was refused had none: ten bytes are room enough
 module _ {r : Completed} {bytes : List ℕ} where
-  pub held-completed : (l : Ledger) → outcome r bytes ≡ completeInto l (replicate 10 0) → r .completion ≡ Written → recordEvents bytes ≡ completed l
+  held-written : (t : Bool) → outcome r bytes ≡ completeInto (marked t) (replicate 10 0) → r .completion ≡ Written
+      → recordEvents bytes ≡ completed (marked t)
   unfolding completeInto overwrite
-  held-completed Idle e h =
+  held-written false e h =
       let differ : Written ≡ Refused noneHeld = sym h ∙ ap (λ (o : Outcome Completed). o .answer .completion) e in
       absurd (let z : _≡_ {A = ℕ} 0 1 = cc differ in omega arith)
-  held-completed Holding e h = ap (λ (o : Outcome Completed). recordEvents (o .lent)) e
+  held-written true e h = ap (λ (o : Outcome Completed). recordEvents (o .lent)) e
 
-  pub none-completed : (l : Ledger) → outcome r bytes ≡ completeInto l (replicate 10 0) → {n : ℕ} → r .completion ≡ Refused n → [] ≡ completed l
+  none-written : (t : Bool) → outcome r bytes ≡ completeInto (marked t) (replicate 10 0) → {n : ℕ} → r .completion ≡ Refused n
+      → [] ≡ completed (marked t)
   unfolding completeInto
-  none-completed Idle e h = refl
-  none-completed Holding e h =
+  none-written false e h = refl
+  none-written true e h =
       let differ : Written ≡ Refused _ = sym (ap (λ (o : Outcome Completed). o .answer .completion) e) ∙ h in
       absurd (let z : _≡_ {A = ℕ} 0 1 = cc differ in omega arith)
+
+  pub held-completed : (l : Ledger) → outcome r bytes ≡ completeInto l (replicate 10 0) → r .completion ≡ Written → recordEvents bytes ≡ completed l
+  held-completed l = held-written (l .held)
+
+  pub none-completed : (l : Ledger) → outcome r bytes ≡ completeInto l (replicate 10 0) → {n : ℕ} → r .completion ≡ Refused n → [] ≡ completed l
+  none-completed l = none-written (l .held)

@@ -5,6 +5,7 @@ use mathlib.Core.Bool.{true}
 use mathlib.Core.List.{List, [], _∷_, _++_}
 use lib.ListN.{replicate}
 use Rattle.octets.specs.Ascii.{ascii}
+use Rattle.octets.specs.Choice.{if_then_else_}
 use Rattle.octets.specs.Lent.{Outcome, outcome}
 use Rattle.octets.specs.Part.{part}
 use Rattle.telnet.specs.declared.Verb.the-variants.{Do}
@@ -16,7 +17,6 @@ use Rattle.option_sides.specs.Session.{allOff}
 use Rattle.option_line.specs.declared.Sent.{Sent}
 use Rattle.option_line.specs.Line.{heardOn}
 use Rattle.print_ledger.specs.declared.Ledger.{Ledger}
-use Rattle.print_ledger.specs.declared.Ledger.the-variants.{Idle, Holding}
 use Rattle.print_ledger.specs.Ledger.{fresh, takeFrame, printComplete}
 use Rattle.show_event.specs.Sent.{sentAt, sentAll, recordEvents}
 
@@ -67,8 +67,7 @@ sentBehind es o = sentAll es (o .lent) (o .answer)
 
 -- print complete for what is held
 abbrev pub completed : Ledger → List Event
-completed Idle = []
-completed Holding = recordEvents printComplete
+completed l = if l .held then recordEvents printComplete else []
 
 -- the order and what goes back for it, on both lines from a place of each on
 pub record Played (down : List ℕ) (downAt : ℕ) (up : List ℕ) (upAt : ℕ) (behind : ℕ) (down′ up′ : List ℕ) : Type 0 where

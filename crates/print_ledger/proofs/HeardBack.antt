@@ -20,7 +20,6 @@ use Rattle.print_frame.specs.declared.Frame.{Frame}
 use Rattle.print_frame.specs.declared.FrameAnswer.{FrameAnswer}
 use Rattle.print_frame.specs.declared.FrameAnswer.the-variants.{Read, Refused}
 use Rattle.print_ledger.specs.declared.Ledger.{Ledger}
-use Rattle.print_ledger.specs.declared.Ledger.the-variants.{Idle, Holding}
 use Rattle.print_ledger.specs.declared.Completed.{Completed}
 use Rattle.print_frame.specs.Frame.{frameOf}
 use Rattle.print_ledger.specs.Ledger.{fresh, answered, takeFrame, printComplete, completeInto}
@@ -38,6 +37,10 @@ record Stepped (l : Ledger) (a : FrameAnswer) : Type 0 where
   clear-empties : T (asks Clear a) → T (isTaken l a) × (held (answered l a .ledger) ≡ 0)
   kept : T (refusedReceipt (answered l a .receipt)) → answered l a .ledger ≡ l
 
+-- a ledger by whether a record is held
+abbrev marked : Bool → Ledger
+marked h = record { held = h }
+
 -- a frame with a direction and an operation in place of its own
 abbrev turned : Frame → Direction → Operation → Frame
 turned f d o = record {
@@ -49,22 +52,22 @@ turned f d o = record {
   «print_data» = f .«print_data»;
 }
 
-read-stepped : (l : Ledger) (f : Frame) (d : Direction) (o : Operation) → Stepped l (Read (turned f d o))
+read-stepped : (h : Bool) (f : Frame) (d : Direction) (o : Operation) → Stepped (marked h) (Read (turned f d o))
 unfolding held isOutbound asks refusedReceipt
-read-stepped l f Inbound o =
+read-stepped h f Inbound o =
     record { balanced = omega arith; print-held = λ p. absurd p; clear-empties = λ c. absurd c; kept = λ r. refl }
-read-stepped Idle f Outbound Print =
+read-stepped false f Outbound Print =
     record { balanced = refl; print-held = λ p h. (tt, refl); clear-empties = λ c. absurd c; kept = λ r. absurd r }
-read-stepped Holding f Outbound Print =
+read-stepped true f Outbound Print =
     record { balanced = refl; print-held = λ p h. absurd (omega arith); clear-empties = λ c. absurd c; kept = λ r. refl }
-read-stepped Idle f Outbound Clear =
+read-stepped false f Outbound Clear =
     record { balanced = refl; print-held = λ p. absurd p; clear-empties = λ c. (tt, refl); kept = λ r. absurd r }
-read-stepped Holding f Outbound Clear =
+read-stepped true f Outbound Clear =
     record { balanced = refl; print-held = λ p. absurd p; clear-empties = λ c. (tt, refl); kept = λ r. absurd r }
 
 stepped : (l : Ledger) (a : FrameAnswer) → Stepped l a
 unfolding asks refusedReceipt
-stepped l (Read f) = read-stepped l f (f .direction) (f .operation)
+stepped l (Read f) = read-stepped (l .held) f (f .direction) (f .operation)
 stepped l (Refused n) =
     record { balanced = omega arith; print-held = λ p. absurd p; clear-empties = λ c. absurd c; kept = λ r. refl }
 
@@ -79,17 +82,17 @@ record Ended (l : Ledger) (out : List ℕ) (o : Outcome Completed) : Type 0 wher
   kept : T (refusedCompletion (o .answer .completion)) → o .answer .ledger ≡ l
   balanced : held l ≡ one (isWritten o) + held (o .answer .ledger)
 
-completion-ended : (l : Ledger) (out : List ℕ) → Ended l out (completeInto l out)
+mark-ended : (h : Bool) (out : List ℕ) → Ended (marked h) out (completeInto (marked h) out)
 unfolding refusedCompletion held completeInto
-completion-ended Idle out = record {
+mark-ended false out = record {
   exactly = (λ w. absurd w, λ h. absurd (omega arith));
   bytes = refl;
   idle = λ w. absurd w;
   kept = λ r. refl;
   balanced = refl;
 }
-completion-ended Holding out =
-    choice (Ended Holding out) (ltb (length out) (length printComplete))
+mark-ended true out =
+    choice (Ended (marked true) out) (ltb (length out) (length printComplete))
     (λ e. record {
       exactly = (λ w. absurd w, λ h. absurd (omega (arith, ltb-true (length out) 10 e)));
       bytes = refl;
@@ -104,6 +107,9 @@ completion-ended Holding out =
       kept = λ r. absurd r;
       balanced = refl;
     })
+
+completion-ended : (l : Ledger) (out : List ℕ) → Ended l out (completeInto l out)
+completion-ended l = mark-ended (l .held)
 
 call-balanced : (l : Ledger) (k : Call) → held l + one (accepts l k) ≡ one (completes l k) + one (clears l k) + held (after l k)
 unfolding after isPrint isClear prints refusedCall accepts clears completes takeFrame

@@ -13,7 +13,6 @@ use Rattle.print_frame.specs.declared.FrameAnswer.{FrameAnswer}
 use Rattle.print_frame.specs.declared.FrameAnswer.the-variants.{Read, Refused as NotRead}
 use Rattle.print_frame.specs.Frame.{operationCode, frameOf}
 use Rattle.print_ledger.specs.declared.Ledger.{Ledger}
-use Rattle.print_ledger.specs.declared.Ledger.the-variants.{Idle, Holding}
 use Rattle.print_ledger.specs.declared.Receipt.{Receipt}
 use Rattle.print_ledger.specs.declared.Receipt.the-variants.{Held, Cleared, NothingToClear, Refused as NotTaken}
 use Rattle.print_ledger.specs.declared.Completion.{Completion}
@@ -31,10 +30,13 @@ unfoldable pub after : Ledger → Call → Ledger
 after l (frame f) = takeFrame l f .ledger
 after l (completion out) = completeInto l out .answer .ledger
 
+-- what a yes counts for
+abbrev pub one : Bool → ℕ
+one b = if b then 1 else 0
+
 -- how many records a ledger holds
 unfoldable pub held : Ledger → ℕ
-held Idle = 0
-held Holding = 1
+held l = one (l .held)
 
 -- whether a frame goes from the server to the client
 unfoldable pub isOutbound : Direction → Bool
@@ -89,10 +91,6 @@ clears l (completion out) = false
 unfoldable pub completes : Ledger → Call → Bool
 completes l (frame f) = false
 completes l (completion out) = not (refusedCall l (completion out))
-
--- what a call counts for
-abbrev pub one : Bool → ℕ
-one b = if b then 1 else 0
 
 -- how many of some calls are of a kind, from a ledger on
 unfoldable pub countCalls : (Ledger → Call → Bool) → Ledger → List Call → ℕ

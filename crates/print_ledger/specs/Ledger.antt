@@ -1,6 +1,7 @@
 -- The print ledger (specification, "Printer frames"). "Ledger" is the specification's own term, and so is "record" for what it holds: the
 -- print record of RFC 4777, section 11.1. The ledger keeps that one is held, not its bytes.
 use Prim.Native.Nat.{ℕ}
+use mathlib.Core.Bool.{true, false, not}
 use mathlib.Core.List.{List, [], _∷_}
 use lib.Dec.{ltb}
 use lib.ListN.{length}
@@ -10,7 +11,6 @@ use Rattle.print_frame.specs.declared.Frame.{Frame}
 use Rattle.print_frame.specs.declared.FrameAnswer.{FrameAnswer}
 use Rattle.print_frame.specs.declared.FrameAnswer.the-variants.{Read, Refused as NotRead}
 use Rattle.print_ledger.specs.declared.Ledger.{Ledger}
-use Rattle.print_ledger.specs.declared.Ledger.the-variants.{Idle, Holding}
 use Rattle.print_ledger.specs.declared.Receipt.{Receipt}
 use Rattle.print_ledger.specs.declared.Receipt.the-variants.{Held, Cleared, NothingToClear, Refused as NotTaken}
 use Rattle.print_ledger.specs.declared.Taken.{Taken}
@@ -22,29 +22,34 @@ use Rattle.refusal.specs.Refusal.{noRoom, recordHeld, noneHeld, inboundFrame}
 use Rattle.octets.specs.Choice.{if_then_else_}
 use Rattle.octets.specs.Lent.{Outcome, outcome, overwrite}
 
+-- a ledger that holds nothing, and one that holds a record
+abbrev pub idle : Ledger
+idle = record { held = false }
+
+abbrev pub holding : Ledger
+holding = record { held = true }
+
 -- nothing is held at first
 abbrev pub fresh : Ledger
-fresh = Idle
+fresh = idle
 
 -- a successor, and what became of the frame
 abbrev pub afterFrame : Ledger → Receipt → Taken
 afterFrame l r = record { ledger = l; receipt = r }
 
--- a print is held when none is, and 50 when one is
-abbrev pub printed : Ledger → Taken
-printed Idle = afterFrame Holding Held
-printed Holding = afterFrame Holding (NotTaken recordHeld)
+-- a print is refused by 50 when one is held, and is held when none is
+abbrev pub printed : Ledger → Frame → Taken
+printed l f = if l .held then afterFrame l (NotTaken recordHeld) else afterFrame holding Held
 
 -- a clear empties the ledger, idle or not, without a completion
-abbrev pub cleared : Ledger → Taken
-cleared Idle = afterFrame Idle NothingToClear
-cleared Holding = afterFrame Idle Cleared
+abbrev pub cleared : Ledger → Frame → Taken
+cleared l f = if l .held then afterFrame idle Cleared else afterFrame idle NothingToClear
 
 -- a frame that was read, by its direction and its operation: 52 for an inbound one, before 50
 abbrev pub taken : Ledger → Frame → Taken
 taken l f = elim (f .direction) [
   | Inbound ↦ afterFrame l (NotTaken inboundFrame)
-  | Outbound ↦ elim (f .operation) [ Print ↦ printed l | Clear ↦ cleared l ]
+  | Outbound ↦ elim (f .operation) [ Print ↦ printed l f | Clear ↦ cleared l f ]
 ]
 
 -- a frame as it was read
@@ -66,7 +71,7 @@ afterCompletion l c = record { ledger = l; completion = c }
 
 -- the device's completion, into a lent output: 51, then 4; one that is refused for want of room still holds
 unfoldable pub completeInto : Ledger → List ℕ → Outcome Completed
-completeInto Idle out = outcome (afterCompletion Idle (NotWritten noneHeld)) out
-completeInto Holding out =
-    if ltb (length out) (length printComplete) then outcome (afterCompletion Holding (NotWritten noRoom)) out
-    else outcome (afterCompletion Idle Written) (overwrite out 0 printComplete)
+completeInto l out =
+    if not (l .held) then outcome (afterCompletion l (NotWritten noneHeld)) out else
+    if ltb (length out) (length printComplete) then outcome (afterCompletion l (NotWritten noRoom)) out else
+    outcome (afterCompletion idle Written) (overwrite out 0 printComplete)

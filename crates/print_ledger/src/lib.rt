@@ -9,9 +9,8 @@ use print_frame::FrameAnswer;
 use print_frame::Operation;
 
 // The ledger: whether a print record is held. It does not keep the record's bytes.
-pub enum Ledger {
-    Idle,
-    Holding,
+pub struct Ledger {
+    pub held: bool,
 }
 
 // What became of a frame that the ledger was given: its record is held, a clear found a record held or none, or a refusal.
@@ -62,27 +61,27 @@ impl Ledger {
     pub fn fresh() -> Ledger
         ensures { λ r. ⌜ r ≡ fresh ⌝ }
     {
-        Self::Idle
+        Ledger { held: false }
     }
 
     // A print: one record is held at a time.
-    fn print(self) -> Taken
-        ensures { λ r. ⌜ r ≡ printed self ⌝ }
+    fn print(self, frame: Frame) -> Taken
+        ensures { λ r. ⌜ r ≡ printed self frame ⌝ }
     {
-        match self {
-            Ledger::Idle => after_frame(Ledger::Holding, Receipt::Held),
-            Ledger::Holding => after_frame(self, Receipt::Refused(refusal::RECORD_HELD)),
+        if self.held {
+            return after_frame(self, Receipt::Refused(refusal::RECORD_HELD));
         }
+        after_frame(Ledger { held: true }, Receipt::Held)
     }
 
     // A clear: nothing is held after it, and nothing is completed.
-    fn clear(self) -> Taken
-        ensures { λ r. ⌜ r ≡ cleared self ⌝ }
+    fn clear(self, frame: Frame) -> Taken
+        ensures { λ r. ⌜ r ≡ cleared self frame ⌝ }
     {
-        match self {
-            Ledger::Idle => after_frame(Ledger::Idle, Receipt::NothingToClear),
-            Ledger::Holding => after_frame(Ledger::Idle, Receipt::Cleared),
+        if self.held {
+            return after_frame(Ledger { held: false }, Receipt::Cleared);
         }
+        after_frame(Ledger { held: false }, Receipt::NothingToClear)
     }
 
     // A frame that was read.
@@ -94,8 +93,8 @@ impl Ledger {
         match direction {
             Direction::Inbound => after_frame(self, Receipt::Refused(refusal::INBOUND_FRAME)),
             Direction::Outbound => match operation {
-                Operation::Print => self.print(),
-                Operation::Clear => self.clear(),
+                Operation::Print => self.print(frame),
+                Operation::Clear => self.clear(frame),
             },
         }
     }
@@ -114,16 +113,12 @@ impl Ledger {
     pub fn complete(self, out: &mut [u8]) -> Completed
         ensures { λ r. ⌜ outcome r (now (out .exit)) ≡ completeInto self (now (out .entry)) ⌝ }
     {
-        match self {
-            Ledger::Idle => {
-                return after_completion(Ledger::Idle, Completion::Refused(refusal::NONE_HELD));
-            }
-            Ledger::Holding => {
-                if octets::put(&PRINT_COMPLETE, out, 0) {
-                    return after_completion(Ledger::Idle, Completion::Written);
-                }
-                return after_completion(self, Completion::Refused(refusal::NO_ROOM));
-            }
+        if !self.held {
+            return after_completion(self, Completion::Refused(refusal::NONE_HELD));
         }
+        if octets::put(&PRINT_COMPLETE, out, 0) {
+            return after_completion(Ledger { held: false }, Completion::Written);
+        }
+        after_completion(self, Completion::Refused(refusal::NO_ROOM))
     }
 }

@@ -4,6 +4,7 @@
 // frames: every number of every enum, both ways, and numbers that name nothing. Those of the verdicts are in `run_export_signon`, which loads more.
 use export_option::TvPair;
 use export_option::TvSides;
+use export_print::TvLedger;
 
 fn say(text: &[u8]) {
     io::write_all(1, text);
@@ -72,13 +73,13 @@ fn receive(state: u8, code: u8, option: u8, accept: u8) {
 }
 
 fn take(ledger: u8, frame: &[u8]) {
-    let t = export_print::tv_ledger_take(ledger, frame);
-    say_numbers(&[t.ledger, t.refusal, t.receipt]);
+    let t = export_print::tv_ledger_take(TvLedger { held: ledger }, frame);
+    say_numbers(&[t.ledger.held, t.refusal, t.receipt]);
 }
 
 fn complete_into(ledger: u8, out: &mut [u8]) {
-    let c = export_print::tv_ledger_complete(ledger, out);
-    say_numbers(&[c.ledger, c.refusal]);
+    let c = export_print::tv_ledger_complete(TvLedger { held: ledger }, out);
+    say_numbers(&[c.ledger.held, c.refusal]);
     say_number(c.length as u64);
     say_numbers(out);
 }

@@ -3,8 +3,8 @@ use borrow.Author.Needs.{needs}
 use Rattle.export_print.proofs.completed_numbers.Statement.{statement}
 use Rattle.export_print.proofs.completed_numbers.Tie as tie
 
-ledger-number-requires : tie.Need-ledger-number-requires
-ledger-number-requires c κs = search needs
+ledger-numbers-requires : tie.Need-ledger-numbers-requires
+ledger-numbers-requires c κs = search needs
 
 enum-told : tie.Need-enum-told
 enum-told c = search needs
@@ -13,11 +13,11 @@ enum-known-completion : tie.Need-enum-known-completion
 enum-known-completion c = search needs
 
 returns : tie.Need-returns
-returns c = rw (c .enum-told .given .1, c .before .before .ledger-number .ensures)
+returns c = rw (c .enum-told .given .1, c .before .before .ledger-numbers .ensures)
 
 returns-2 : tie.Need-returns-2
 returns-2 c = rw (c .before .completion .given .1)
 
 pub completed-numbers-spec : {M : Type 1} → statement M
 completed-numbers-spec =
-    tie.close (tie.spec ledger-number-requires enum-told enum-known-completion returns returns-2)
+    tie.close (tie.spec ledger-numbers-requires enum-told enum-known-completion returns returns-2)

@@ -1,36 +1,30 @@
--- `export_print::ledgers_named` meets its contract: by the two states, and by the test of the number. Assumes nothing.
-use mathlib.Core.Path.{_≡_, refl}
-use mathlib.Core.Logic.{_⊎_, inl, inr}
-use Prim.Native.Nat.{ℕ}
-use native.Mathlib.Omega.{arith}
+-- `export_print::ledgers_named` meets its contract: by whether a record is held, and by the test of the number. Assumes nothing.
+use mathlib.Core.Path.{_≡_, refl, ap}
+use mathlib.Core.Bool.{Bool, true, false}
 use lib.Dec.{eqb}
-use borrow.Author.Tests.{eqb-true, ne-eqb}
-use Rattle.octets.proofs.Choice.{choice}
+use borrow.Author.Tests.{eqb-true, eq-eqb, ne-eqb}
 use Rattle.print_ledger.specs.declared.Ledger.{Ledger}
-use Rattle.print_ledger.specs.declared.Ledger.the-variants.{Idle, Holding}
-use Rattle.export.proofs.Named.{exactly}
-use Rattle.export_print.specs.Numbers.{ledgerNumber, ledgerNamed}
+use Rattle.export.specs.Numbers.{mark}
+use Rattle.export_print.specs.declared.TvLedger.{TvLedger}
+use Rattle.export_print.specs.Numbers.{ledgerNumbers, ledgerNamed}
 use Rattle.export_print.proofs.ledgers_named.Statement.{statement}
 use Rattle.export_print.proofs.ledgers_named.Tie as tie
 
-back : (l : Ledger) → ledgerNamed (ledgerNumber l) ≡ l
-unfolding ledgerNamed
-back Idle = refl
-back Holding = refl
+-- a mark read back
+read-back : (h : Bool) → eqb (mark h) 1 ≡ h
+read-back true = refl
+read-back false = refl
 
-reads : (n : ℕ) → (ledgerNumber (ledgerNamed n) ≡ n) ⊎ (ledgerNamed n ≡ Idle)
+back : (l : Ledger) → ledgerNamed (ledgerNumbers l) ≡ l
 unfolding ledgerNamed
-reads n = choice (λ (l : Ledger). (ledgerNumber l ≡ n) ⊎ (l ≡ Idle)) (eqb n 1) (λ e. inl (omega (arith, eqb-true n 1 e))) (λ _. inr refl)
-
-idle : (n : ℕ) → (n ≡ 1 → ⊥) → ledgerNamed n ≡ Idle
-unfolding ledgerNamed
-idle n h = rw (ne-eqb n 1 h)
+back l = ap (λ (h : Bool). record { held = h }) (read-back (l .held))
 
 returns : tie.Need-returns
+unfolding ledgerNamed
 returns c = record {
   back = back;
-  holding = exactly ledgerNumber ledgerNamed Idle reads Holding (back Holding) (λ e. omega (arith, e));
-  idle = idle;
+  holding = λ t. (eqb-true (t .held) 1, eq-eqb (t .held) 1);
+  idle = λ t. ne-eqb (t .held) 1;
 }
 
 pub ledgers-named-spec : {M : Type 1} → statement M

@@ -37,9 +37,10 @@ say-receipt-requires c κs = search needs
 returns : tie.Need-returns
 unfolding ledgerBy
 returns c =
-    let bytes = c .before .before .part .ensures ∙ ap (part _ 0) (c .before .before .before .before .before .length-of .ensures) in
-    ap (λ (t : Taken). t .ledger) (c .before .take-frame .ensures ∙ ap₂ takeFrame (c .before .before .before .before .fresh .ensures) bytes)
-    ∙ ap (λ (o : Outcome Record). takeFrame fresh (bytesRead o) .ledger) (c .before .before .before .before .before .before .before .read-record .ensures)
+    let k = c .before .before in
+    let bytes = k .before .part .ensures ∙ ap (part _ 0) (k .before .before .before .before .length-of .ensures) in
+    ap (λ (t : Taken). t .ledger) (k .take-frame .ensures ∙ ap₂ takeFrame (k .before .before .before .fresh .ensures) bytes)
+    ∙ ap (λ (o : Outcome Record). takeFrame fresh (bytesRead o) .ledger) (k .before .before .before .before .before .before .read-record .ensures)
 
 pub take-spec : {M : Type 1} → statement M
 take-spec =

@@ -1,23 +1,18 @@
 -- `print_ledger::Ledger::complete` meets its contract: while one is held, what `octets::put` answers decides. Assumes nothing.
 use mathlib.Core.Path.{ap}
+use denote.Ref.{now}
 use borrow.Author.Needs.{needs}
 use Rattle.print_ledger.specs.Ledger.{completeInto}
 use Rattle.print_ledger.proofs.Completing.{ending, completing}
 use Rattle.print_ledger.proofs.Ledger.complete.Statement.{statement}
 use Rattle.print_ledger.proofs.Ledger.complete.Tie as tie
 
-enum-told : tie.Need-enum-told
-enum-told c = search needs
-
 after-completion-requires : tie.Need-after-completion-requires
 after-completion-requires c κs = search needs
 
 returns : tie.Need-returns
 unfolding completeInto
-returns c = rw (c .after-completion .ensures, c .before .enum-told .given .1)
-
-enum-told-2 : tie.Need-enum-told-2
-enum-told-2 c = search needs
+returns c = rw (c .after-completion .ensures, c .before .if1 .taken)
 
 slice-aggregate-put : tie.Need-slice-aggregate-put
 slice-aggregate-put c = search needs
@@ -33,9 +28,11 @@ same-length c = search needs
 
 returns-2 : tie.Need-returns-2
 returns-2 c =
-    let held = c .before .before .before .before .before .before .before .enum-told2 .given .1 in
     let put = c .before .before .before .before .put .ensures in
-    rw (c .after-completion2 .ensures, held, completing) (ap ending (rw (c .before .if1 .taken) at put))
+    let held = c .before .before .before .before .before .before .before .if1 .left in
+    let a = c .before .before .before .before .before .before .before .before .before .before .args in
+    rw (c .after-completion2 .ensures, completing (a .self) (now (a .out)) held)
+    (ap (ending (a .self)) (rw (c .before .if2 .taken) at put))
 
 after-completion-requires-3 : tie.Need-after-completion-requires-3
 after-completion-requires-3 c κs = search needs
@@ -45,18 +42,18 @@ same-length-2 c = search needs
 
 returns-3 : tie.Need-returns-3
 returns-3 c =
-    let held = c .before .before .before .before .before .before .before .enum-told2 .given .1 in
     let put = c .before .before .before .before .put .ensures in
-    rw (c .after-completion3 .ensures, held, completing) (ap ending (rw (c .before .if1 .left) at put))
+    let held = c .before .before .before .before .before .before .before .if1 .left in
+    let a = c .before .before .before .before .before .before .before .before .before .before .args in
+    rw (c .after-completion3 .ensures, completing (a .self) (now (a .out)) held)
+    (ap (ending (a .self)) (rw (c .before .if2 .left) at put))
 
 pub complete-spec : {M : Type 1} → statement M
 complete-spec =
     tie.close
     (tie.spec
-    enum-told
     after-completion-requires
     returns
-    enum-told-2
     slice-aggregate-put
     put-requires
     after-completion-requires-2

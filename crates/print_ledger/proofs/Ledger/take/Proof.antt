@@ -29,10 +29,12 @@ returns : tie.Need-returns
 returns c = c .after-frame .ensures ∙ rw (c .before .enum-told .given .1)
 
 returns-2 : tie.Need-returns-2
-returns-2 c = search needs
+returns-2 c =
+    c .print .ensures ∙ rw (c .before .before .before .enum-told2 .given .1, c .before .enum-told3 .given .1)
 
 returns-3 : tie.Need-returns-3
-returns-3 c = search needs
+returns-3 c =
+    c .clear .ensures ∙ rw (c .before .before .before .enum-told2 .given .1, c .before .enum-told4 .given .1)
 
 pub take-spec : {M : Type 1} → statement M
 take-spec =
