@@ -1,5 +1,5 @@
 // Telnet: the events and records of a line. This crate has what is right, and no function: start with `specs/Event.antt`, `specs/Write.antt` and
-// `specs/Read.antt`. The code is in `telnet_data`, `telnet_reader`, `telnet_records`,
+// `specs/Read.antt`. The code is in `telnet_data`, `telnet_lead`, `telnet_reader`, `telnet_records`,
 // `telnet_writer`, `telnet_line` and `telnet_listing`.
 
 // The option commands.

@@ -4,7 +4,6 @@ ghost use mathlib.Core.Path.{_≡_};
 ghost use Prim.Native.Nat.{_+_, _-_, _<_, _^_};
 ghost use lib.Dec.{leb};
 ghost use lib.ListN.{length, drop};
-ghost use Rattle.telnet.specs.Event.{lead};
 ghost use Rattle.telnet.specs.Read.{afterIac, afterSb, afterVerb};
 ghost use Rattle.telnet_reader.specs.near.Lead.{leadIn};
 ghost use Rattle.telnet_reader.specs.Promise.{answered, lookAt, readAt};
@@ -24,24 +23,6 @@ pub enum Answer {
     Refused(u8),
 }
 
-// What a byte behind a 255 begins.
-fn lead_of(c: u8) -> Lead
-    ensures { λ r. ⌜ r ≡ lead c ⌝ }
-{
-    if c < 239 {
-        return Lead::Faulty;
-    }
-    match c {
-        240 => Lead::Faulty,
-        250 => Lead::Opens,
-        251 => Lead::Negotiates(Verb::Will),
-        252 => Lead::Negotiates(Verb::Wont),
-        253 => Lead::Negotiates(Verb::Do),
-        254 => Lead::Negotiates(Verb::Dont),
-        _ => Lead::Simple,
-    }
-}
-
 // What stands at a 255 with the byte behind it.
 fn command(s: &[u8], at: usize) -> Answer
     requires { ⌜ at < length (now s) ⌝ }
@@ -52,7 +33,7 @@ fn command(s: &[u8], at: usize) -> Answer
         return Answer::Refused(refusal::CUT_SHORT);
     }
     let c = s[behind];
-    match lead_of(c) {
+    match telnet_lead::lead_of(c) {
         Lead::Faulty => Answer::Refused(refusal::BAD_COMMAND),
         Lead::Opens => subnegotiation(s, at),
         Lead::Negotiates(verb) => negotiation(verb, s, at),

@@ -1,12 +1,13 @@
--- `telnet_reader::lead_of` meets its contract: at each arm the tests of `lead` are decided. Assumes nothing.
+-- `telnet_lead::lead_of` meets its contract: at each arm the tests of `lead` are decided. Assumes nothing.
+use native.Mathlib.Omega.{arith}
 use borrow.Author.Tests.{lt-ltb, le-ltb, ne-eqb}
 use Rattle.telnet.specs.Event.{lead}
-use Rattle.telnet_reader.proofs.lead_of.Statement.{statement}
-use Rattle.telnet_reader.proofs.lead_of.Tie as tie
+use Rattle.telnet_lead.proofs.lead_of.Statement.{statement}
+use Rattle.telnet_lead.proofs.lead_of.Tie as tie
 
 returns : tie.Need-returns
 unfolding lead
-returns c = rw (lt-ltb _ _ (c .if1 .taken), lead)
+returns c = rw (lt-ltb (c .before .args .c) 239 (omega arith), lead)
 
 returns-2 : tie.Need-returns-2
 unfolding lead
@@ -37,8 +38,8 @@ unfolding lead
 returns-8 c =
     let r = c .match .rest in
     let no = ne-eqb in
-    rw (le-ltb _ _ (c .before .if1 .left), no _ _ (r .0 .0 .0 .0 .0 .1), no _ _ (r .0 .0 .0 .0 .1), no _ _ (r .0 .0 .0 .1))
-    (rw (no _ _ (r .0 .0 .1), no _ _ (r .0 .1), no _ _ (r .1)))
+    rw (le-ltb (c .before .before .args .c) 239 (omega arith), no _ _ (r .0 .0 .0 .0 .0 .1), no _ _ (r .0 .0 .0 .0 .1))
+    (rw (no _ _ (r .0 .0 .0 .1), no _ _ (r .0 .0 .1), no _ _ (r .0 .1), no _ _ (r .1)))
 
 pub lead-of-spec : {M : Type 1} → statement M
 lead-of-spec =

@@ -1,12 +1,12 @@
--- `listing::read_all` meets its contract: each turn reads some bytes behind those that are there, or is the last. The measure is how much of
--- the buffer is left. Assumes nothing.
+-- `show_input::read_all` meets its contract: each turn reads some bytes after those that are there, or is the last. The
+-- measure is how much of the buffer is left. Assumes nothing.
 use mathlib.Core.Path.{_≡_}
 use Prim.Native.Nat.{_-_, _≤_}
 use lib.ListN.{length}
 use borrow.Author.Needs.{needs}
 use Rattle.io.proofs.Counting.{counts}
-use Rattle.listing.proofs.read_all.Statement.{statement}
-use Rattle.listing.proofs.read_all.Tie as tie
+use Rattle.show_input.proofs.read_all.Statement.{statement}
+use Rattle.show_input.proofs.read_all.Tie as tie
 
 abbrev Inv-loop : tie.InvT-loop
 Inv-loop buffer₀ n₀ buffer n = (n ≤ length buffer) × (length buffer ≡ length buffer₀)
