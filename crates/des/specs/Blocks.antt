@@ -6,7 +6,7 @@ use mathlib.Core.List.{List, [], _∷_, map}
 abbrev pub bit : ℕ → ℕ → ℕ → ℕ
 bit w x p = x / 2 ^ (w - p) % 2
 
--- a block, and behind it blocks of w bits, one after the other
+-- a block, and after it blocks of w bits, one after the other
 unfoldable pub continued : ℕ → ℕ → List ℕ → ℕ
 continued w a [] = a
 continued w a (x ∷ xs) = continued w (a * 2 ^ w + x) xs

@@ -1,4 +1,4 @@
--- The cipher function box by box: what the boxes still to come give, behind what the others gave, is the whole. Assumes nothing.
+-- The cipher function box by box: what the boxes still to come give, after what the others gave, is the whole. Assumes nothing.
 use mathlib.Core.Path.{_≡_, sym, ap, ap₂, _∙_}
 use mathlib.Core.List.{List, map}
 use Prim.Native.Nat.{ℕ, suc, _+_, _-_, _*_, _%_, _^_, _<_}
@@ -25,7 +25,7 @@ chosen-at R K j h =
     let e : 1 + j ≡ suc j = omega arith in
     listed-at (λ i. selected (S i) (B R K i)) 8 1 j 0 h ∙ ap (λ (i : ℕ). selected (S i) (B R K i)) e
 
--- four bits more behind the 4 * j that stand in a
+-- four bits more after the 4 * j that stand in a
 pub behind : (a s j : ℕ) → a < 2 ^ (4 * j) → j < 8 → s < 16 → bitOr (a * 2 ^ 4 % 2 ^ 64) s ≡ a * 2 ^ 4 + s
 behind a s j h i k =
     let small : a < 2 ^ 28 = lt-of-lt-of-le h (pow-mono {i = 4 * j} {j = 28} (omega arith)) in

@@ -21,7 +21,7 @@ unfolding recorded
 length-recorded at [] = refl
 length-recorded at (v ∷ vs) = omega (arith, length-recorded (at + length (v .name) + length (v .value)) vs)
 
--- a list that begins with a ++ b: a stands in front, and b behind it
+-- a list that begins with a ++ b: a stands in front, and b after it
 part-apart : (bytes : List ℕ) (at : ℕ) (a b : List ℕ) → part bytes at (length (a ++ b)) ≡ a ++ b
     → (part bytes at (length a) ≡ a) × (part bytes (at + length a) (length b) ≡ b)
 unfolding part

@@ -25,7 +25,7 @@ fieldsOf : List Variable → List Field
 fieldsOf [] = []
 fieldsOf (v ∷ vs) = nameField (v .kind) (text (v .name)) ∷ valueField (text (v .value)) ∷ fieldsOf vs
 
--- a text with its ESCs, with nothing plain behind it
+-- a text with its ESCs, with nothing plain after it
 row-text : (bs rest : List ℕ) (fs : List Field) → rowOf rest ≡ row (text []) fs → rowOf (escaped bs ++ rest) ≡ row (text bs) fs
 row-text bs rest fs e = rw (row-escaped bs rest, e, prefixed-text bs [] fs, append-nil)
 

@@ -20,7 +20,7 @@ use Rattle.env.specs.Read.{Reading, says, notRead, distinct, begun, read
 use Rattle.env.specs.Write.{kindsGood, isEmpty, nameless}
 use Rattle.env.proofs.Limits.{reading-short, reading-long, limited-room, limited-full}
 
--- variables of good kinds, with names, and no more than fit behind k others
+-- variables of good kinds, with names, and no more than fit after k others
 pub record Sound (k : ℕ) (vs : List Variable) : Type 0 where
   pub kinds : T (kindsGood vs)
   pub full : nameless vs ≡ false

@@ -24,7 +24,7 @@ unfoldable pub several : ℕ → List Variable
 several zero = []
 several (suc n) = several n ++ variable VAR ((0x20 + n) ∷ []) [] ∷ []
 
--- a payload of them, as short as can be, and something behind it
+-- a payload of them, as short as can be, and something after it
 unfoldable pub severalThen : ℕ → List ℕ → List ℕ
 severalThen zero rest = rest
 severalThen (suc n) rest = severalThen n (VAR ∷ (0x20 + n) ∷ rest)
@@ -54,7 +54,7 @@ boundaries =
     -- a name without VALUE, and with an empty one
     ∷ case (0 ∷ 0 ∷ 0x41 ∷ []) (says IS (variable VAR A [] ∷ []))
     ∷ case (0 ∷ 0 ∷ 0x41 ∷ 1 ∷ []) (says IS (variable VAR A [] ∷ []))
-    -- VALUE inside a value, before and behind a bad ESC
+    -- VALUE inside a value, before and after a bad ESC
     ∷ case (0 ∷ 0 ∷ 0x41 ∷ 1 ∷ 1 ∷ []) (notRead valueInValue)
     ∷ case (0 ∷ 0 ∷ 0x41 ∷ 1 ∷ 1 ∷ 2 ∷ 5 ∷ []) (notRead valueInValue)
     ∷ case (0 ∷ 0 ∷ 0x41 ∷ 1 ∷ 2 ∷ 5 ∷ 1 ∷ []) (notRead badEscape)

@@ -1,4 +1,4 @@
--- The part of a payload after its first byte is a row of fields: a VAR, VALUE or USERVAR that no ESC stands before, and the text behind it, a
+-- The part of a payload after its first byte is a row of fields: a VAR, VALUE or USERVAR that no ESC stands before, and the text after it, a
 -- name or a value without its ESCs.
 use Prim.Native.Nat.{ℕ, zero, suc}
 use mathlib.Core.List.{List, [], _∷_}
@@ -16,7 +16,7 @@ pub data Field : Type 0 where
   nameField : ℕ → Text → Field
   valueField : Text → Field
 
--- the text at the front, and the fields behind it
+-- the text at the front, and the fields after it
 pub record Row : Type 0 where
   pub front : Text
   pub fields : List Field

@@ -62,7 +62,7 @@ fits bytes at n = leb (at + n) (length bytes)
 abbrev pub isPlaced : List ℕ → VariableRecord → Bool
 isPlaced bytes r = isKind (r .kind) && (fits bytes (r .«name_at») (r .«name_length») && fits bytes (r .«value_at») (r .«value_length»))
 
--- each of some records is
+-- every record is placed
 unfoldable pub allPlaced : List ℕ → List VariableRecord → Bool
 allPlaced bytes [] = true
 allPlaced bytes (r ∷ rs) = isPlaced bytes r && allPlaced bytes rs

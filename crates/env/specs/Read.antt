@@ -15,7 +15,7 @@ pub data Found : Type 0 where
   variables : List Variable → Found
   fault : ℕ → Found
 
--- A variable with those found behind it. A fault behind it is the fault of all: it decides no number.
+-- A variable with those found after it. A fault after it is the fault of all: it decides no number.
 unfoldable pub addVariable : Variable → Found → Found
 addVariable v (variables vs) = variables (v ∷ vs)
 addVariable v (fault n) = fault n
@@ -35,8 +35,8 @@ named found [] = fault noVariable
 named found (b ∷ bs) = found (b ∷ bs)
 
 -- The variables of fields, where there are k already. A VALUE where a name should stand is refused by the number given: 21 before the first variable
--- and behind one without a value, 23 behind a value. Else a name stands there, and behind it its value, nothing more, or the next name; from left
--- to right its 24, 22 and 21 come first, then its value's 22, then what is behind it.
+-- and after one without a value, 23 after a value. Else a name stands there, and after it its value, nothing more, or the next name; from left
+-- to right its 24, 22 and 21 come first, then its value's 22, then what is after it.
 unfoldable pub names : ℕ → ℕ → List Field → Found
 names number k [] = variables []
 names number k (valueField t ∷ fs) = fault number

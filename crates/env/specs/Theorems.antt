@@ -48,7 +48,7 @@ pub record Occurs (kind : ℕ) (name : List ℕ) (vs : List Variable) : Type 0 w
 abbrev pub AmongIsOccurs : Type 0
 AmongIsOccurs = (kind : ℕ) (name : List ℕ) (vs : List Variable) → T (among kind name vs) ↔ Occurs kind name vs
 
--- a variable whose kind and name occur again behind it
+-- a variable whose kind and name occur again after it
 pub record Twice (vs : List Variable) : Type 0 where
   pub before : List Variable
   pub it : Variable
@@ -56,7 +56,7 @@ pub record Twice (vs : List Variable) : Type 0 where
   pub there : vs ≡ before ++ it ∷ behind
   pub again : Occurs (it .kind) (it .name) behind
 
--- The test behind 25 finds a kind and name that are there twice, and nothing else.
+-- The test for 25 finds a kind and name that are there twice, and nothing else.
 abbrev pub RepeatedIsTwice : Type 0
 RepeatedIsTwice = (vs : List Variable) → T (repeated vs) ↔ Twice vs
 

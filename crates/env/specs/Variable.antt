@@ -16,7 +16,7 @@ INFO = 2
 unfoldable pub isFirst : ℕ → Bool
 isFirst b = eqb b IS || eqb b INFO
 
--- what bytes behind it stand for
+-- what bytes after it stand for
 abbrev pub VAR : ℕ
 VAR = 0
 

@@ -36,7 +36,7 @@ delivered (says first vs) bytes numbers =
 abbrev pub readInto : List ℕ → List ℕ → List ℕ → Delivery
 readInto payload bytes numbers = delivered (readingOf payload) bytes numbers
 
--- what stands behind the first byte of a payload, read
+-- what stands after the first byte of a payload, read
 unfoldable pub readBehind : ℕ → List ℕ → List ℕ → List ℕ → Delivery
 readBehind first rest bytes numbers =
     if ltb payloadLimit (length (first ∷ rest)) then delivery (Refused payloadTooLong) bytes numbers

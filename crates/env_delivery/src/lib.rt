@@ -29,7 +29,7 @@ fn copy_numbers(from: &[usize], list: &mut [usize])
     }
 }
 
-// Hands over texts and records that were read, where there is room for both. Nothing can be refused behind it.
+// Hands over texts and records that were read, where there is room for both. Nothing can be refused after it.
 pub fn hand_over(
     first: u8,
     texts: &[u8],

@@ -45,7 +45,7 @@ unfolding firstRecords
 firsts-front l m zero h = refl
 firsts-front l m (suc n) h = rw (firsts-front l m n (omega arith), record-front l m n (omega arith))
 
--- the first records of variables, whatever numbers are behind theirs, are all of them
+-- the first records of variables, whatever numbers are after theirs, are all of them
 firsts-recorded : (vs : List Variable) (nums rest : List ℕ)
     → firstRecords (overwrite nums 0 (recorded 0 vs) ++ rest) (length vs) ≡ recordsOf (recorded 0 vs)
 unfolding overwrite

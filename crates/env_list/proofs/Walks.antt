@@ -87,7 +87,7 @@ module _ {M : Type 1} {𝓤 : URA M} {H : Heap 𝓤} {A : Atoms 𝓤} {K : Type 
       Γ (runs C Λ E (seq (assign (at-place i []) rv) rest) Q)
   lets t n e rv ty = assigns t rv (from t (stop t)) (init t n e ty)
 
-  -- a record is 40 bytes: the pointer to record i is `i * 40` behind the slice's
+  -- a record is 40 bytes: the pointer to record i is `i * 40` after the slice's
   pub offset-to : K → {E : Env 𝓤 H} {s t : Operand} {b o : ℕ} (i : ℕ) → Opd K W Γ E s (vptr b o) → Opd K W Γ E t (vint w64 (i * 40))
       → Rv K W Γ E (op2 offset s t) (vptr b (place 40 o i))
   offset-to k {E} {s} {t} {b} {o} i first second = subst (λ (m : ℕ). Rv K W Γ E (op2 offset s t) (vptr b m)) (sym (place-is 40 o i)) (bin k first second tt)

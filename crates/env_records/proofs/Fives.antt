@@ -22,11 +22,11 @@ few P none one two three four (k ∷ a ∷ n ∷ b ∷ m ∷ l) h = absurd (omeg
 first : (l : List ℕ) (i : ℕ) → i < length l → drop i l ≡ getD l i 0 ∷ drop (i + 1) l
 first l i h = rw (add-one, drop-cons l i 0)
 
--- the number at j behind i, and those behind it
+-- the number at j after i, and those after it
 next : (l : List ℕ) (i j : ℕ) → i + j < length l → drop (i + j) l ≡ getD l (i + j) 0 ∷ drop (i + (j + 1)) l
 next l i j h = rw (← add-assoc) (first l (i + j) h)
 
--- the five numbers at a place, and those behind them
+-- the five numbers at a place, and those after them
 pub five : (l : List ℕ) (i : ℕ) → i + recordWidth ≤ length l
     → drop i l ≡ getD l i 0 ∷ getD l (i + 1) 0 ∷ getD l (i + 2) 0 ∷ getD l (i + 3) 0 ∷ getD l (i + 4) 0 ∷ drop (i + recordWidth) l
 five l i h = rw (first l i (omega arith), next l i 1 (omega arith), next l i 2 (omega arith), next l i 3 (omega arith), next l i 4 (omega arith))

@@ -1,4 +1,4 @@
--- Five stores, one behind the other, are one write. Assumes nothing.
+-- Five stores, one after the other, are one write. Assumes nothing.
 use mathlib.Core.Path.{_≡_, sym, _∙_}
 use mathlib.Core.List.{List, [], _∷_}
 use Prim.Native.Nat.{ℕ, suc, _+_, _≤_}
@@ -9,7 +9,7 @@ use Rattle.env.specs.Numbers.{recordWidth}
 use Rattle.octets.specs.Lent.{overwrite}
 use Rattle.octets.proofs.Overwrite.{overwrite-cons, overwrite-one}
 
--- the number at j behind k is stored, and the rest is written from there on
+-- the number at j after k is stored, and the rest is written from there on
 next : (l : List ℕ) (k j b : ℕ) (y : List ℕ) → k + j + suc (length y) ≤ length l
     → overwrite l (k + j) (b ∷ y) ≡ overwrite (set l (k + j) b) (k + (j + 1)) y
 next l k j b y h = rw (← add-assoc) (sym (overwrite-cons l (k + j) b y h))

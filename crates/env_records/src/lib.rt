@@ -120,7 +120,7 @@ pub fn value_of<'a>(bytes: &'a [u8], numbers: &[usize], kind: usize, name: &[u8]
     }
 }
 
-// Whether a record behind record i is of the same kind and name.
+// Whether a record after record i is of the same kind and name.
 fn occurs_behind(bytes: &[u8], numbers: &[usize], i: usize) -> bool
     requires { ⌜ i < length (now numbers) / recordWidth ⌝ }
     ensures { λ r. ⌜

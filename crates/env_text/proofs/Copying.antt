@@ -23,7 +23,7 @@ pub copy-whole : (s : List ℕ) (from count : ℕ) (out₀ : List ℕ) (at : ℕ
 unfolding copyText
 copy-whole s from count out₀ at out h e = rw (le-leb (at + count) (length out₀) h, e)
 
--- one byte, and then those behind it
+-- one byte, and then those after it
 pub copy-next : (s out : List ℕ) (i w at k count : ℕ) → Next s i w → k < count → at + count ≤ length out
     → overwrite (set out (at + k) (getD s (i + w - 1) 0)) (at + (k + 1)) (take (count - (k + 1)) (textOf (drop (i + w) s) .bytes))
     ≡ overwrite out (at + k) (take (count - k) (textOf (drop i s) .bytes))

@@ -8,12 +8,12 @@ use Rattle.env_text.specs.declared.Text.{Text}
 use Rattle.octets.specs.Choice.{if_then_else_}
 use Rattle.octets.specs.Lent.{Outcome, outcome, overwrite}
 
--- the bytes of the text without their ESCs, and what stands behind it
+-- the bytes of the text without their ESCs, and what stands after it
 pub record Cut : Type 0 where
   pub bytes : List ℕ
   pub behind : List ℕ
 
--- a text of some bytes, and what stands behind it
+-- a text of some bytes, and what stands after it
 abbrev pub cut : List ℕ → List ℕ → Cut
 cut bs l = record { bytes = bs; behind = l }
 
@@ -31,7 +31,7 @@ textOf (suc (suc zero) ∷ b ∷ bs) = if leb b 3 then withByte b (textOf bs) el
 textOf (suc (suc (suc zero)) ∷ bs) = cut [] (suc (suc (suc zero)) ∷ bs)
 textOf (suc (suc (suc (suc b))) ∷ bs) = withByte (suc (suc (suc (suc b)))) (textOf bs)
 
--- behind a text that is whole stands nothing, or a VAR, VALUE or USERVAR
+-- after a text that is whole stands nothing, or a VAR, VALUE or USERVAR
 unfoldable pub endsText : List ℕ → Bool
 endsText [] = true
 endsText (zero ∷ bs) = true
@@ -40,7 +40,7 @@ endsText (suc (suc zero) ∷ bs) = false
 endsText (suc (suc (suc zero)) ∷ bs) = true
 endsText (suc (suc (suc (suc b))) ∷ bs) = false
 
--- the text from a place on: whole, where nothing stands behind it, or a VAR, VALUE or USERVAR; its length, and the place behind it
+-- the text from a place on: whole, where nothing stands after it, or a VAR, VALUE or USERVAR; its length, and the place after it
 unfoldable pub textAt : List ℕ → ℕ → Text
 textAt s from =
     let t = textOf (drop from s) in

@@ -7,14 +7,14 @@ ghost use Rattle.env_text.specs.near.Scan.{IsWidth, IsExtent};
 ghost use Rattle.octets.specs.Lent.{outcome};
 use octets::no_room;
 
-// A name or a value in a payload: whether it is whole, its length without ESCs, and the place behind it.
+// A name or a value in a payload: whether it is whole, its length without ESCs, and the place after it.
 pub struct Text {
     pub whole: bool,
     pub length: usize,
     pub end: usize,
 }
 
-// How far a text goes: its length without ESCs, and the place behind it.
+// How far a text goes: its length without ESCs, and the place after it.
 pub struct Extent {
     pub length: usize,
     pub end: usize,

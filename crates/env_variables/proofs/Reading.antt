@@ -57,7 +57,7 @@ name-variables (variables vs) count used before r after is e =
       read,
     )
 
--- what the reader delivers, by what stands behind the first byte
+-- what the reader delivers, by what stands after the first byte
 module _ (first : ℕ) (rest bytes numbers : List ℕ) where
   pub long-behind : payloadLimit ≤ length rest → delivery (Refused payloadTooLong) bytes numbers ≡ readBehind first rest bytes numbers
   unfolding readBehind

@@ -29,7 +29,7 @@ unfolding givesValue
 gives-some [] e = let z : _≡_ {A = ℕ} 0 1 = cc in omega arith
 gives-some (b ∷ bs) e = omega arith
 
--- the text behind the first byte, found and copied
+-- the text after the first byte, found and copied
 pub taken : (rest bytes₀ : List ℕ) (at : ℕ) (t : Text) {b : Bool} {bytes : List ℕ} → 0 < length rest → at + length rest ≤ length bytes₀
     → t ≡ textAt rest 1 → outcome b bytes ≡ copyText rest 1 (t .length) bytes₀ at → IsTaken rest bytes₀ at t bytes
 unfolding textAt

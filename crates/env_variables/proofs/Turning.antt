@@ -1,4 +1,4 @@
--- The laws behind the turns of name reader and value reader: what the fields say of the variables, and how what is stored behind a name or a value becomes what is stored from it on. Assumes nothing.
+-- The laws of the turns of name reader and value reader: what the fields say of the variables, and how what is stored after a name or a value becomes what is stored from it on. Assumes nothing.
 use mathlib.Core.Path.{_≡_, refl, sym, ap, _∙_}
 use mathlib.Core.Bool.{Bool, true, false}
 use mathlib.Core.List.{List, [], _∷_, _++_}
@@ -230,7 +230,7 @@ value-whole : (k : ℕ) (l v : List ℕ) (fs : List Field) → givesValue l ≡ 
 unfolding fromValue
 value-whole k l v fs e g = rw (value-of k l e, g)
 
--- a VALUE and the text behind it
+-- a VALUE and the text after it
 pub some-value : (l bytes₀ : List ℕ) (at : ℕ) (t : Taken) (bytes : List ℕ) → givesValue l ≡ true → IsTaken l bytes₀ at t bytes → IsValue l bytes₀ at t bytes
 some-value l bytes₀ at t bytes e is = record {
   value = textOf (drop 1 l) .bytes;

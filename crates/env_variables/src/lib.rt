@@ -58,7 +58,7 @@ fn gives_value(rest: &[u8]) -> bool
     rest[0] == 1
 }
 
-// Puts the text behind the first byte at a place of the buffer.
+// Puts the text after the first byte at a place of the buffer.
 fn take_text(rest: &[u8], bytes: &mut [u8], at: usize) -> Text
     requires { ⌜ (0 < length (now rest)) × (at + length (now rest) ≤ length (now bytes)) ⌝ }
     ensures { λ r. ⌜ IsTaken (now (rest .entry)) (now (bytes .entry)) at r (now (bytes .exit)) ⌝ }
@@ -68,7 +68,7 @@ fn take_text(rest: &[u8], bytes: &mut [u8], at: usize) -> Text
     t
 }
 
-// Puts the value behind a name at a place of the buffer; where no VALUE stands, it is empty and takes nothing of the rest.
+// Puts the value after a name at a place of the buffer; where no VALUE stands, it is empty and takes nothing of the rest.
 fn take_value(rest: &[u8], bytes: &mut [u8], at: usize) -> Text
     requires { ⌜ (endsText (now rest) ≡ true) × (at + length (now rest) ≤ length (now bytes)) ⌝ }
     ensures { λ r. ⌜ IsValue (now (rest .entry)) (now (bytes .entry)) at r (now (bytes .exit)) ⌝ }
@@ -83,7 +83,7 @@ fn take_value(rest: &[u8], bytes: &mut [u8], at: usize) -> Text
     take_text(rest, bytes, at)
 }
 
-// Sets record k: a name of n bytes, and m bytes of its value behind it.
+// Sets record k: a name of n bytes, and m bytes of its value after it.
 fn store(numbers: &mut [usize], k: usize, kind: u8, at: usize, n: usize, m: usize)
     requires { ⌜ (k < variableLimit) × (listLimit ≤ length (now numbers)) × (at + n ≤ payloadLimit) ⌝ }
     ensures { λ _. ⌜ now (numbers .exit) ≡ overwrite (now (numbers .entry)) (recordWidth * k) (kind ∷ at ∷ n ∷ (at + n) ∷ m ∷ []) ⌝ }
@@ -137,7 +137,7 @@ fn name(
     value(&rest[end..], kind, bytes, at, t.length, numbers, k)
 }
 
-// The value of a name that has been read. Behind a value a VALUE is a fault; behind a name without one it cannot be what stands next.
+// The value of a name that has been read. After a value a VALUE is a fault; after a name without one it cannot be what stands next.
 fn value(
     rest: &[u8],
     kind: u8,
@@ -170,7 +170,7 @@ fn value(
     )
 }
 
-// Finds the variables of what stands behind the first byte of a payload. Names and values without their ESCs go back to back into the buffer, and
+// Finds the variables of what stands after the first byte of a payload. Names and values without their ESCs go back to back into the buffer, and
 // their records into the list: room for as many as a payload can hold.
 fn find_variables(
     rest: &[u8],
@@ -186,7 +186,7 @@ fn find_variables(
     name(rest, NO_VARIABLE, texts, 0, records, 0)
 }
 
-// Reads what stands behind the first byte of a payload, and delivers its variables. Names and values without their ESCs go back to back into the
+// Reads what stands after the first byte of a payload, and delivers its variables. Names and values without their ESCs go back to back into the
 // buffer, and their records into the list, when nothing can be refused any more.
 pub fn read_variables(first: u8, rest: &[u8], bytes: &mut [u8], numbers: &mut [usize]) -> Answer
     ensures { λ r. ⌜

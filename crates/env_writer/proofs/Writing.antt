@@ -18,7 +18,7 @@ unfolding escaped marked
 escaped-marked [] = refl
 escaped-marked (b ∷ s) = rw (le-leb 0 b (omega arith), escaped-marked s)
 
--- a kind, a name, VALUE and a value, one behind the other
+-- a kind, a name, VALUE and a value, one after the other
 pub stored-variable : (out : List ℕ) (at k b : ℕ) (n v : List ℕ) → k ≡ at + 1 + length n → k + 1 + length v ≤ length out
     → overwrite (set (overwrite (set out at b) (at + 1) n) k VALUE) (k + 1) v ≡ overwrite out at (b ∷ (n ++ VALUE ∷ v))
 stored-variable out at k b n v e h =

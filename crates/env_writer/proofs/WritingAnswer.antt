@@ -69,7 +69,7 @@ module _ (first : ℕ) (bytes l out : List ℕ) (e : isFirst first ≡ true) (p 
   unfolding writeInto put
   no-space h g = rw (e, p, fine h, lt-ltb (length out) (length (payloadOf first (held bytes l))) (omega arith))
 
-  -- the variables fit behind the first byte
+  -- the variables fit after the first byte
   pub space : k ≤ payloadLimit → k ≤ length out → 1 + length (writtenVariables (held bytes l)) ≤ length (set out 0 first)
   space h g = rw length-set (omega arith)
 

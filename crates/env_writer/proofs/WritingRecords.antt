@@ -1,4 +1,4 @@
--- The laws by which the writer walks a list of records: what a good record says, and its variable, before those behind it.
+-- The laws by which the writer walks a list of records: what a good record says, and its variable, before those after it.
 -- Assumes nothing.
 use mathlib.Core.Path.{_≡_, refl, sym, ap, _∙_}
 use mathlib.Core.Bool.{Bool, true, false, _&&_, _||_}
@@ -72,7 +72,7 @@ unfolding writtenVariable
 length-written bytes r = simp length-append (omega arith)
 
 module _ (bytes l : List ℕ) (i : ℕ) where
-  -- the records from i on are good where record i is, and those behind it are
+  -- the records from i on are good where record i is, and those after it are
   pub good-from : i < length l / recordWidth → placed bytes (drop (recordWidth * i) l) ≡ true
       → (isPlaced bytes (recordAt l i) ≡ true) × (placed bytes (drop (recordWidth * (i + 1)) l) ≡ true)
   good-from h e = both _ _ (sym (placed-step bytes l i h) ∙ e)
@@ -92,7 +92,7 @@ module _ (bytes l : List ℕ) (i : ℕ) where
   unfolding writtenVariables
   written-none h = ap writtenVariables (held-end bytes l i h)
 
-  -- one of them is nameless: record i, or one behind it
+  -- one of them is nameless: record i, or one after it
   pub nameless-from : i < length l / recordWidth → placed bytes (drop (recordWidth * i) l) ≡ true
       → nameless (held bytes (drop (recordWidth * i) l)) ≡ (eqb (recordAt l i .«name_length») 0 || nameless (held bytes (drop (recordWidth * (i + 1)) l)))
   unfolding nameless

@@ -67,7 +67,7 @@ fn any_nameless(numbers: &[usize]) -> bool
     false
 }
 
-// A length with a name or a value behind it; past the limit, one past it. Names and values may overlap in the buffer, so that the sum of all
+// A length with a name or a value after it; past the limit, one past it. Names and values may overlap in the buffer, so that the sum of all
 // could wrap.
 fn longer(n: usize, text: &[u8]) -> usize
     requires { ⌜ n ≤ payloadLimit + 3 ⌝ }
@@ -83,7 +83,7 @@ fn longer(n: usize, text: &[u8]) -> usize
     m
 }
 
-// A length with a variable behind it, counted likewise.
+// A length with a variable after it, counted likewise.
 fn longer_by_variable(n: usize, bytes: &[u8], v: VariableRecord) -> usize
     requires { ⌜ (n ≤ payloadLimit + 1) × (isPlaced (now bytes) v ≡ true) ⌝ }
     ensures { λ r. ⌜ r ≡ min (payloadLimit + 1) (n + length (writtenVariable (variableOf (now (bytes .entry)) v))) ⌝ }
@@ -113,7 +113,7 @@ fn measure(bytes: &[u8], numbers: &[usize]) -> usize
     n
 }
 
-// Puts a variable at a place; the answer is the place behind it.
+// Puts a variable at a place; the answer is the place after it.
 fn put_variable(bytes: &[u8], v: VariableRecord, out: &mut [u8], at: usize) -> usize
     requires { ⌜ (isPlaced (now bytes) v ≡ true) × (at + length (writtenVariable (variableOf (now bytes) v)) ≤ length (now out)) ⌝ }
     ensures { λ r. ⌜ IsPut (writtenVariable (variableOf (now (bytes .entry)) v)) (now (out .entry)) at r (now (out .exit)) ⌝ }
@@ -128,7 +128,7 @@ fn put_variable(bytes: &[u8], v: VariableRecord, out: &mut [u8], at: usize) -> u
     octets_marked::put_marked(&bytes[value..value_end], 2, 0, 3, out, k + 1)
 }
 
-// Puts the variables behind the first byte.
+// Puts the variables after the first byte.
 fn put_all(bytes: &[u8], numbers: &[usize], out: &mut [u8])
     requires { ⌜ HasRoom (now bytes) (now numbers) (now out) ⌝ }
     ensures { λ _. ⌜ now (out .exit) ≡ overwrite (now (out .entry)) 1 (writtenVariables (held (now (bytes .entry)) (now (numbers .entry)))) ⌝ }

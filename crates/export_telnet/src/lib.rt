@@ -16,7 +16,7 @@ use telnet_writer::Written;
 
 // What stands at a place. `what` is 0 where the input ended, 1 for data, 2 for a command, 3 for a negotiation, 4 for a subnegotiation. `code` is the
 // command, or 251 to 254 for WILL, WONT, DO and DONT. `option` is the option byte. `length` is how many bytes the event carries, `next` the place
-// behind it. What an event does not have is 0, and all is 0 where the input ended.
+// after it. What an event does not have is 0, and all is 0 where the input ended.
 #[repr(C)]
 pub struct TvEvent {
     pub what: u8,
@@ -27,7 +27,7 @@ pub struct TvEvent {
     pub next: usize,
 }
 
-// A record. `complete` is 1, with its length and the place behind it; or 0, with no refusal where the input ended before an end-of-record.
+// A record. `complete` is 1, with its length and the place after it; or 0, with no refusal where the input ended before an end-of-record.
 #[repr(C)]
 pub struct TvRecord {
     pub complete: u8,

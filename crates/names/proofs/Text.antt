@@ -43,7 +43,7 @@ appended [] n i a = getD-replicated n i a
 appended (b ∷ bs) n zero a = refl
 appended (b ∷ bs) n (suc i) a = appended bs n i a
 
--- behind the list there are pads
+-- after the list there are pads
 pub filled-at : (pad width : ℕ) (l : List ℕ) (i : ℕ) → getD (filled pad width l) i pad ≡ getD l i pad
 unfolding filled
 filled-at pad width l i = appended l (width - length l) i pad

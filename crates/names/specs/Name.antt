@@ -29,7 +29,7 @@ isName limit text = leb 1 (length text) && leb (length text) limit && every isNa
 unfoldable pub isRaisedName : ℕ → List ℕ → Bool
 isRaisedName limit text = leb 1 (length text) && leb (length text) limit && every isNameByte text
 
--- a name as it is held: its bytes with zeros behind them, and their number
+-- a name as it is held: its bytes with zeros after them, and their number
 abbrev pub name : List ℕ → Name
 name n = record { bytes = filled 0 10 n; length = length n }
 

@@ -9,7 +9,7 @@ ghost use Rattle.names.specs.Padding.{filled};
 ghost use Rattle.names.specs.Name.{raisedByte, raised, isNameByte, isName, named, profileLimit, deviceLimit, systemLimit};
 ghost use Rattle.names.specs.Ebcdic.{ebcdic, blank, ebcdicOf};
 
-// The raised bytes of a name with zeros behind them, and how many they are: 0, where a text is no name.
+// The raised bytes of a name with zeros after them, and how many they are: 0, where a text is no name.
 pub struct Name {
     pub bytes: [u8; 10],
     pub length: usize,
@@ -81,7 +81,7 @@ pub fn is_name(text: &[u8], limit: usize) -> bool
     are_name_bytes(text)
 }
 
-// A text raised, with zeros behind it.
+// A text raised, with zeros after it.
 fn raised_bytes(text: &[u8]) -> [u8; 10]
     requires { ⌜ length (now text) ≤ 10 ⌝ }
     ensures { λ r. ⌜ r ≡ filled 0 10 (raised (now (text .entry))) ⌝ }
@@ -134,7 +134,7 @@ pub fn system_name(text: &[u8]) -> Name
     name_of(text, 8)
 }
 
-// The byte at a place of the EBCDIC of a text, and behind its end the blank.
+// The byte at a place of the EBCDIC of a text, and after its end the blank.
 fn ebcdic_at(text: &[u8], at: usize) -> u8
     ensures { λ r. ⌜ r ≡ getD (ebcdicOf (now (text .entry))) at blank ⌝ }
 {

@@ -1,4 +1,4 @@
--- The laws of `overwrite`: a write of nothing and of one byte, two writes one behind the other, and what stands there after it.
+-- The laws of `overwrite`: a write of nothing and of one byte, two writes one after the other, and what stands there after it.
 -- Assumes nothing.
 use mathlib.Core.Path.{_≡_, refl, sym, ap, _∙_}
 use mathlib.Core.List.{List, [], _∷_, _++_, append-assoc, append-nil}
@@ -31,14 +31,14 @@ overwrite-one l at b h = rw (add-one, set-split l at b h)
 head-length : (l : List ℕ) (at : ℕ) (x : List ℕ) → at ≤ length l → length (take at l ++ x) ≡ at + length x
 head-length l at x h = rw (length-append, length-take-le at l h)
 
--- what stands up to the end of a write, and behind it
+-- what stands up to the end of a write, and after it
 pub take-written : (l : List ℕ) (at : ℕ) (x : List ℕ) → at ≤ length l → take (at + length x) (overwrite l at x) ≡ take at l ++ x
 take-written l at x h = rw (written, ← append-assoc) (take-at (take at l ++ x) (drop (at + length x) l) (at + length x) (head-length l at x h))
 
 pub drop-written : (l : List ℕ) (at : ℕ) (x : List ℕ) → at ≤ length l → drop (at + length x) (overwrite l at x) ≡ drop (at + length x) l
 drop-written l at x h = rw (written, ← append-assoc) (drop-at (take at l ++ x) (drop (at + length x) l) (at + length x) (head-length l at x h))
 
--- behind a write, so far or further, all is as it was
+-- after a write, so far or further, all is as it was
 pub drop-past : (l : List ℕ) (at : ℕ) (x : List ℕ) (n : ℕ) → at ≤ length l → drop (at + length x + n) (overwrite l at x) ≡ drop (at + length x + n) l
 drop-past l at x n h = sym (drop-drop n (at + length x) (overwrite l at x)) ∙ ap (drop n) (drop-written l at x h) ∙ drop-drop n (at + length x) l
 
@@ -55,7 +55,7 @@ overwrite-cons l at b y h =
     let g : at + (1 + length y) ≤ length l = omega arith in
     rw (← overwrite-one l at b k) (overwrite-append l at (b ∷ []) y g)
 
--- one byte of a list that is written from the front, and then those behind it
+-- one byte of a list that is written from the front, and then those after it
 pub overwrite-next : (l : List ℕ) (at : ℕ) (x : List ℕ) (i d : ℕ) → i < length x → at + length x ≤ length l
     → overwrite (set l (at + i) (getD x i d)) (at + (i + 1)) (drop (i + 1) x) ≡ overwrite l (at + i) (drop i x)
 overwrite-next l at x i d h g =

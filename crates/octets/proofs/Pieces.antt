@@ -1,4 +1,4 @@
--- Pieces put one behind the other to the front of a buffer. Assumes nothing.
+-- Pieces put one after the other to the front of a buffer. Assumes nothing.
 use mathlib.Core.Path.{_≡_, ap, _∙_}
 use mathlib.Core.Bool.{Bool}
 use mathlib.Core.List.{List, _++_}
@@ -11,7 +11,7 @@ use Rattle.octets.proofs.Overwrite.{overwrite-append, length-overwrite}
 use Rattle.octets.proofs.Promise.{put-whole}
 
 module _ (l : List ℕ) (x y : List ℕ) (at : ℕ) (seam : at ≡ length x) (room : at + length y ≤ length l) where
-  -- a piece behind those that are there
+  -- a piece after those that are there
   pub behind : overwrite (overwrite l 0 x) at y ≡ overwrite l 0 (x ++ y)
   behind =
       let z : at ≡ 0 + length x = omega arith in

@@ -11,11 +11,11 @@ pub record Outcome (A : Type 0) : Type 0 where
 abbrev pub outcome : {A : Type 0} → A → List ℕ → Outcome A
 outcome a l = record { answer = a; lent = l }
 
--- a buffer with bytes put at a place: everything before and behind them is as it was
+-- a buffer with bytes put at a place: everything before and after them is as it was
 unfoldable pub overwrite : List ℕ → ℕ → List ℕ → List ℕ
 overwrite buffer at bytes = take at buffer ++ (bytes ++ drop (at + length bytes) buffer)
 
--- bytes put at a place, told by the place behind them and by the buffer as it is left
+-- bytes put at a place, told by the place after them and by the buffer as it is left
 pub record IsPut (bytes buffer : List ℕ) (at behind : ℕ) (left : List ℕ) : Type 0 where
   pub place : behind ≡ at + length bytes
   pub lent : left ≡ overwrite buffer at bytes

@@ -1,4 +1,4 @@
-// Helpers on bytes that several layers share. Each is total and says all of what it leaves behind.
+// Helpers on bytes that several layers share. Each is total and says all of what it leaves.
 ghost use mathlib.Core.Path.{_≡_};
 ghost use Prim.Native.Nat.{_+_, _%_, _≤_};
 ghost use lib.Dec.{ltb};

@@ -36,7 +36,7 @@ module _ (mark low high : ℕ) where
       go true = refl
       go false = refl
 
-  -- a text from a place on: the byte there, and the text behind it
+  -- a text from a place on: the byte there, and the text after it
   pub marked-at : (s : List ℕ) (i : ℕ) → i < length s
       → marked mark low high (drop i s) ≡ marked mark low high (getD s i 0 ∷ []) ++ marked mark low high (drop (i + 1) s)
   marked-at s i h = ap (marked mark low high) (at-front s i h) ∙ marked-cons (getD s i 0) (drop (i + 1) s)

@@ -39,7 +39,7 @@ plain-more mark low high s at j h e p =
     p ∙ ap (λ (l : List ℕ). take j (drop at s) ++ l) (marked-at mark low high s (at + j) h)
     ∙ rw (marked-one mark low high b e, part-more s at j h, append-assoc, add-assoc)
 
--- a piece x of n bytes: how long it is, and that it leaves what is behind it
+-- a piece x of n bytes: how long it is, and that it leaves what is after it
 module _ (mark low high : ℕ) (s : List ℕ) (i n : ℕ) (x : List ℕ) (piece : marked mark low high (drop i s) ≡ x ++ marked mark low high (drop (i + n) s)) where
   pub length-piece : length (marked mark low high (drop i s)) ≡ length x + length (marked mark low high (drop (i + n) s))
   length-piece = ap length piece ∙ length-append x (marked mark low high (drop (i + n) s))
@@ -56,7 +56,7 @@ module _ (mark low high : ℕ) (s : List ℕ) (i n : ℕ) (x : List ℕ) (piece 
       rest = marked mark low high (drop (i + n) s)
 
 module _ {mark low high : ℕ} {s : List ℕ} where
-  -- one piece behind another
+  -- one piece after another
   pub then-further : {i k j r m t : ℕ} {b l o : List ℕ} → Further mark low high s i b k j r l → Further mark low high s j l r m t o
       → Further mark low high s i b k m t o
   then-further f g = record { place = g .place ∙ f .place; lent = g .lent ∙ f .lent }

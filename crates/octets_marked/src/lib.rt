@@ -34,7 +34,7 @@ pub fn marked_length(bytes: &[u8], low: u8, high: u8) -> usize
     bytes.len() + marks
 }
 
-// Puts a byte at a place, behind its mark where it has one; the answer is the place behind it.
+// Puts a byte at a place, after its mark where it has one; the answer is the place after it.
 fn put_byte(b: u8, mark: u8, low: u8, high: u8, out: &mut [u8], at: usize) -> usize
     requires { ⌜ at + length (marked mark low high (b ∷ [])) ≤ length (now out) ⌝ }
     ensures { λ r. ⌜ IsPut (marked mark low high (b ∷ [])) (now (out .entry)) at r (now (out .exit)) ⌝ }
@@ -76,7 +76,7 @@ fn copy_eight(bytes: &[u8], from: usize, out: &mut [u8], to: usize)
     }
 }
 
-// Puts the bytes between two places of a text, one at a time; the answer is the place behind them.
+// Puts the bytes between two places of a text, one at a time; the answer is the place after them.
 fn put_bytes(
     bytes: &[u8],
     from: usize,
@@ -119,7 +119,7 @@ fn put_eight(
     put_bytes(bytes, from, from + 8, mark, low, high, out, at)
 }
 
-// Puts a text at a place of the buffer, with a mark before each byte of a range; the answer is the place behind it. Where it does not fit,
+// Puts a text at a place of the buffer, with a mark before each byte of a range; the answer is the place after it. Where it does not fit,
 // nothing is written and the answer is the place itself.
 pub fn put_marked(bytes: &[u8], mark: u8, low: u8, high: u8, out: &mut [u8], at: usize) -> usize
     ensures { λ r. ⌜ outcome r (now (out .exit)) ≡ putMarked mark low high (now (bytes .entry)) (now (out .entry)) at ⌝ }

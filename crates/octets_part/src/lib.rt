@@ -31,7 +31,7 @@ pub fn part(bytes: &[u8], at: usize, n: usize) -> &[u8]
     &bytes[start..end]
 }
 
-// The byte at a place, or 0 behind the end.
+// The byte at a place, or 0 after the end.
 pub fn byte_at(bytes: &[u8], i: usize) -> u8
     ensures { λ r. ⌜ r ≡ getD (now (bytes .entry)) i 0 ⌝ }
 {

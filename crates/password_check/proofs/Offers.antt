@@ -82,7 +82,7 @@ module _ (stored name s k offered : List ℕ) (seeds : Bool) (e : seeds ≡ areS
       let both = and-eq-true-iff (eqb (length s) seedLength) (eqb (length k) seedLength) .0 (sym e ∙ not-false seeds f) in
       (eqb-true (length s) seedLength (both .0), eqb-true (length k) seedLength (both .1))
 
-  -- an answer behind those tests that only a bad name refuses
+  -- an answer after those tests that only a bad name refuses
   named : {A : Type 0} (gives : A → Bool) (n : ℕ) {refused answer : A} {b : Bool} → length stored ≡ n → gives refused ≡ false → gives answer ≡ b
       → gives (if not (isName profileLimit name) then refused else answer) ≡ tested n stored s k (isName profileLimit name && b)
   named gives n h r a = unless gives (isName profileLimit name) r a ∙ passed n stored s k _ seeds e f h

@@ -48,7 +48,7 @@ userID ID = number (if ltb 8 (length ID) then folded (filled blank 10 ID) else f
 abbrev pub tokenOf : List ℕ → List ℕ → ℕ
 tokenOf PW ID = enciphered (SHIFT-RESULT PW) (userID ID)
 
--- 4), 8) PW-TOKEN, for lengths 9 and 10 PW-TOKENa xor PW-TOKENb: of characters 1 to 8, and of those behind them
+-- 4), 8) PW-TOKEN, for lengths 9 and 10 PW-TOKENa xor PW-TOKENb: of characters 1 to 8, and of those after them
 unfoldable pub PW-TOKEN : List ℕ → List ℕ → ℕ
 PW-TOKEN PW ID = if ltb 8 (length PW) then bitXor (tokenOf (take 8 PW) ID) (tokenOf (drop 8 PW) ID) else tokenOf PW ID
 

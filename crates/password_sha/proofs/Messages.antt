@@ -1,4 +1,4 @@
--- What is hashed: pieces put one behind the other into a buffer. Assumes nothing.
+-- What is hashed: pieces put one after the other into a buffer. Assumes nothing.
 use mathlib.Core.Path.{_≡_, refl, sym, ap, _∙_}
 use mathlib.Core.Bool.{Bool, true}
 use mathlib.Core.List.{List, [], _++_, append-assoc}

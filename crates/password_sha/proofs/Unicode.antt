@@ -19,7 +19,7 @@ next : (l : List ℕ) (i : ℕ) → i < length l → unicode (drop i l) ≡ 0 �
 unfolding unicode
 next l i h = rw (add-one, drop-cons l i 0 h)
 
--- a character stored at a place, and those from the next on behind it
+-- a character stored at a place, and those from the next on after it
 pub one-more : (text out : List ℕ) (at i : ℕ) → i < length text → at + 2 * length text ≤ length out
     → overwrite (set (set out (at + 2 * i) 0) (at + 2 * i + 1) (getD text i 0)) (at + 2 * (i + 1)) (unicode (drop (i + 1) text))
     ≡ overwrite out (at + 2 * i) (unicode (drop i text))

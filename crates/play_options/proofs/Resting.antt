@@ -26,7 +26,7 @@ pub all-asked : askedAll (replicate 18 0) ≡ outcome asking (writtenAll request
 unfolding turns requestedOn unlessPast sentBy choose carried rulesOf pairAt withPair written writtenAll overwrite
 all-asked = refl
 
--- the printer's sides behind its answers
+-- the printer's sides after its answers
 abbrev pub answering : Sent
 answering = sent (sides (pair On On) bothOff (pair On Off) (pair On On) (pair On Off)) 0 18
 

@@ -75,7 +75,7 @@ fn ask_all(down: &mut [u8]) -> Sent
     last
 }
 
-// An end hears six option commands, of three bytes each, and accepts; what it answers goes behind what it has sent.
+// An end hears six option commands, of three bytes each, and accepts; what it answers goes after what it has sent.
 fn hear_all(first: Sent, heard: &[u8], line: &mut [u8]) -> Sent
     ensures { λ r. ⌜ outcome r (now (line .exit)) ≡ heardAll first (now (heard .entry)) (now (line .entry)) ⌝ }
 {

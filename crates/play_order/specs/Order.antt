@@ -53,7 +53,7 @@ bytesRead o = part (o .lent) 0 (lengthOf (o .answer))
 unfoldable pub ledgerBy : List ℕ → ℕ → Ledger
 ledgerBy down at = takeFrame fresh (bytesRead (recordAt down at (replicate 512 0))) .ledger
 
--- the place behind what was put on a line, and the line
+-- the place after what was put on a line, and the line
 abbrev pub placed : Outcome Sent → Outcome ℕ
 placed o = outcome (o .answer .place) (o .lent)
 
@@ -61,7 +61,7 @@ placed o = outcome (o .answer .place) (o .lent)
 unfoldable pub replied : List ℕ → ℕ → List ℕ → ℕ → Outcome ℕ
 replied down from up at = placed (heardOn allOff down from true up at)
 
--- events behind what was sent
+-- events after what was sent
 abbrev pub sentBehind : List Event → Outcome ℕ → Outcome ℕ
 sentBehind es o = sentAll es (o .lent) (o .answer)
 

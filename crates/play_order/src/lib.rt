@@ -75,7 +75,7 @@ fn take(down: &[u8], at: usize) -> Ledger
 }
 
 // The printer answers the option command at a place. An option that is not carried has no side: fresh sides answer it as any others would. The answer is the
-// place behind what it sends.
+// place after what it sends.
 fn reply(down: &[u8], from: usize, up: &mut [u8], at: usize) -> usize
     ensures { λ r. ⌜ outcome r (now (up .exit)) ≡ replied (now (down .entry)) from (now (up .entry)) at ⌝ }
 {
@@ -106,7 +106,7 @@ fn hear(up: &[u8], at: usize) {
     say_frame(print_frame::read_frame(octets_part::part(&frame, 0, n)));
 }
 
-// The device has printed: print complete goes to the host, if a record is held. The answer is the place behind it.
+// The device has printed: print complete goes to the host, if a record is held. The answer is the place after it.
 fn complete(ledger: Ledger, up: &mut [u8], at: usize) -> usize
     ensures { λ r. ⌜ outcome r (now (up .exit)) ≡ sentAll (completed ledger) (now (up .entry)) at ⌝ }
 {
@@ -123,7 +123,7 @@ fn complete(ledger: Ledger, up: &mut [u8], at: usize) -> usize
     }
 }
 
-// The order is sent, taken, and heard back, on both lines from a place of each on. The answer is the place behind what the printer sends.
+// The order is sent, taken, and heard back, on both lines from a place of each on. The answer is the place after what the printer sends.
 pub fn play(down: &mut [u8], down_at: usize, up: &mut [u8], up_at: usize) -> usize
     ensures { λ r. ⌜ Played (now (down .entry)) «down_at» (now (up .entry)) «up_at» r (now (down .exit)) (now (up .exit)) ⌝ }
 {

@@ -45,7 +45,7 @@ fn hear(down: &[u8], at: usize) {
     say_code(&record);
 }
 
-// The host responds to the verdict, and the printer reads it. The answer is the place behind it.
+// The host responds to the verdict, and the printer reads it. The answer is the place after it.
 pub fn respond(verdict: Verdict, down: &mut [u8], at: usize) -> usize
     ensures { λ r. ⌜ outcome r (now (down .exit)) ≡ sentAll (responded verdict) (now (down .entry)) at ⌝ }
 {

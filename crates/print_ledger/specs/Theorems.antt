@@ -36,7 +36,7 @@ pub record HeardBack (ks : List Call) : Type 0 where
   -- no completion without an accepted print before it, one that is neither completed nor cleared yet
   pub not-before : (out : List ℕ)
       → T (completes (run fresh ks) (completion out)) → completions ks + recordsCleared ks < acceptedPrints ks
-  -- and once for each: behind a completion none is written until another print is accepted
+  -- and once for each: after a completion none is written until another print is accepted
   pub once : (out : List ℕ) (js : List Call)
       → T (completes (run fresh ks) (completion out))
       → countCalls accepts (after (run fresh ks) (completion out)) js ≡ 0 → countCalls completes (after (run fresh ks) (completion out)) js ≡ 0

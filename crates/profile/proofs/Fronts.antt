@@ -72,7 +72,7 @@ four-on n = omega arith
 pub two-and-two : (n : ℕ) → 2 + (2 + n) ≡ suc (suc (suc (suc n)))
 two-and-two n = omega arith
 
--- the record of a profile, with something behind it
+-- the record of a profile, with something after it
 pub record Fronts (s : Shape) (p : Profile) (rest : List ℕ) : Type 0 where
   pub is : T (isRecord s (recordBytes p ++ rest))
   pub says : profileAt s (recordBytes p ++ rest) ≡ p
@@ -84,7 +84,7 @@ pub length-body : (s : Shape) (p : Profile) → WellFormed s p → length (bodyO
 length-body s p w = omega (arith, length-append (p .name) (tokenBytes (p .tokens)), length-joined (p .tokens), ap sumOf (w .tokens))
 
 module _ (s : Shape) (p : Profile) (rest : List ℕ) (w : WellFormed s p) (short : bodyLength s profileLimit < 2 ^ 16) where
-  -- what stands behind the four bytes in front
+  -- what stands after the four bytes in front
   abbrev tail : List ℕ
   tail = (p .name ++ tokenBytes (p .tokens)) ++ rest
 

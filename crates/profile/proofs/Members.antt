@@ -29,7 +29,7 @@ found name p (q ∷ ps) =
       o .1,
     ))
 
--- a name that others come behind comes before each of theirs
+-- a name before all of some names comes before each of theirs
 ahead : (s : Shape) (before : List ℕ) (l : List Profile) (p : Profile) (behind : List Profile)
     → Ascending s before (l ++ p ∷ behind) → T (precedes before (p .name))
 ahead s before [] p behind asc = asc .1 .0

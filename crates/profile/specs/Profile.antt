@@ -47,7 +47,7 @@ unfoldable pub marksOf : ℕ → ℕ → List Bool
 marksOf zero b = []
 marksOf (suc k) b = eqb (b % 2) 1 ∷ marksOf k (b / 2)
 
--- tokens one behind the other
+-- tokens one after the other
 unfoldable pub tokenBytes : List (List ℕ) → List ℕ
 tokenBytes [] = []
 tokenBytes (t ∷ ts) = t ++ tokenBytes ts
@@ -66,7 +66,7 @@ sumOf (n ∷ ns) = n + sumOf ns
 abbrev pub bodyLength : Shape → ℕ → ℕ
 bodyLength s n = 2 + (n + sumOf (s .tokens))
 
--- what stands behind the length: flags, n, name, tokens
+-- what stands after the length: flags, n, name, tokens
 abbrev pub bodyOf : Profile → List ℕ
 bodyOf p = flagsByte (p .marks) ∷ length (p .name) ∷ (p .name ++ tokenBytes (p .tokens))
 

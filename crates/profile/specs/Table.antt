@@ -50,7 +50,7 @@ pub data TableReading : Type 0 where
   profiles : List Profile → TableReading
   tableRefused : ℕ → TableReading
 
--- a profile with what stands behind it
+-- a profile with what stands after it
 unfoldable pub addProfile : Profile → TableReading → TableReading
 addProfile p (profiles ps) = profiles (p ∷ ps)
 addProfile p (tableRefused n) = tableRefused n
@@ -60,8 +60,8 @@ unfoldable pub unlessEnd : List ℕ → TableReading → TableReading
 unlessEnd [] reading = profiles []
 unlessEnd (b ∷ bs) reading = reading
 
--- The records of bytes, where there is room for so many more and their names come behind one. Decides 31 for a record that is not well-formed, then 32 for
--- one too many and for one whose name does not come behind the name before it. Bytes that are left over are a record that is cut.
+-- The records of bytes, where there is room for so many more and their names come after one. Decides 31 for a record that is not well-formed, then 32 for
+-- one too many and for one whose name does not come after the name before it. Bytes that are left over are a record that is cut.
 unfoldable pub profilesFrom : Shape → ℕ → List ℕ → List ℕ → TableReading
 profilesFrom s zero before bs = unlessEnd bs (if isRecord s bs then tableRefused profilesNotAscending else tableRefused badProfile)
 profilesFrom s (suc room) before bs = unlessEnd bs
@@ -76,7 +76,7 @@ unfoldable pub tableOf : List ℕ → TableReading
 tableOf [] = tableRefused badTable
 tableOf (v ∷ bs) = if eqb v tableVersion then profilesFrom version1 profileCount [] bs else tableRefused badTable
 
--- the records of profiles, one behind the other
+-- the records of profiles, one after the other
 unfoldable pub recordsBytes : List Profile → List ℕ
 recordsBytes [] = []
 recordsBytes (p ∷ ps) = recordBytes p ++ recordsBytes ps

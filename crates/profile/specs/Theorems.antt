@@ -23,7 +23,7 @@ pub record WellFormed (s : Shape) (p : Profile) : Type 0 where
   pub name : T (isRaisedName profileLimit (p .name))
   pub tokens : map length (p .tokens) ≡ s .tokens
 
--- profiles of a shape, their names strictly ascending behind one
+-- profiles of a shape, their names strictly ascending after one
 abbrev pub Ascending : Shape → List ℕ → List Profile → Type 0
 Ascending s before [] = Unit {0}
 Ascending s before (p ∷ ps) = WellFormed s p × (T (precedes before (p .name)) × Ascending s (p .name) ps)

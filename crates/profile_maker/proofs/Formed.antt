@@ -1,4 +1,4 @@
--- A made profile is well-formed, and its record is the pieces one behind the other. Assumes nothing.
+-- A made profile is well-formed, and its record is the pieces one after the other. Assumes nothing.
 use mathlib.Core.Path.{_≡_, refl, _∙_}
 use mathlib.Core.Bool.{true}
 use mathlib.Core.List.{List, append-nil}

@@ -28,7 +28,7 @@ use Rattle.profile_maker.proofs.Formed.{formed, size}
 never : {A : Type 0} {k n : ℕ} → Refused k ≡ Wrote n → A
 never e = let z : _≡_ {A = ℕ} 0 1 = cc in absurd (omega arith)
 
--- what is left behind an answer that so many bytes were written
+-- what is left after an answer that so many bytes were written
 abbrev GoodIfWrote : Making → ℕ → Outcome Made → Type 0
 GoodIfWrote m n o = o .answer ≡ Wrote n → Good m n (take n (o .lent))
 

@@ -1,4 +1,4 @@
--- The parts of a record: what it says of DES, and its pieces put one behind the other. Assumes nothing.
+-- The parts of a record: what it says of DES, and its pieces put one after the other. Assumes nothing.
 use mathlib.Core.Path.{_≡_, refl, sym, _∙_}
 use mathlib.Core.Bool.{Bool, true, false, not, and-true, and-false}
 use mathlib.Core.List.{List, [], _∷_, _++_, append-assoc}

@@ -26,7 +26,7 @@ abbrev pub MadeRecordsAreGood : Type 0
 MadeRecordsAreGood =
     (m : Making) (out : List ℕ) (n : ℕ) → makeInto m out .answer ≡ Wrote n → Good m n (take n (makeInto m out .lent))
 
--- good names and passwords, the names strictly ascending behind one
+-- good names and passwords, the names strictly ascending after one
 abbrev pub AscendingMakings : List ℕ → List Making → Type 0
 AscendingMakings before [] = Unit {0}
 AscendingMakings before (m ∷ ms) =

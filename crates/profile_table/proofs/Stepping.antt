@@ -58,7 +58,7 @@ or-chain Absent e f false = refl
 or-chain (Present d) e f t = refl
 or-chain (Refused n) e f t = refl
 
--- a scan goes on behind a profile
+-- a scan goes on after a profile
 scanned-more : (name : List ℕ) (count at : ℕ) (found : Found) (p : Profile) (r : TableReading)
     → continued name count at found (addProfile p r) ≡ continued name (count + 1) (at + length (recordBytes p)) (foundHere at name p found) r
 unfolding addProfile foundFrom
@@ -78,7 +78,7 @@ module _ (table name : List ℕ) (at count n : ℕ) (found : Found) (before : Li
       let k : at + 4 + n - (at + 4) ≡ nameLengthAt (drop at table) = omega (arith, r .named) in
       rw k (ap (take (nameLengthAt (drop at table))) (sym (drop-drop 4 at table)))
 
-  -- the scan behind it
+  -- the scan after it
   pub further : continued name count at found (recordsBehind count before (drop at table))
       ≡ continued name (count + 1) (at + 32 + n) (foundHere at name (profileAt version1 (drop at table)) found)
       (recordsBehind (count + 1) (nameAt (drop at table)) (drop (at + 32 + n) table))

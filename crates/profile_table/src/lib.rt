@@ -74,7 +74,7 @@ fn is_record(bytes: &[u8]) -> bool
     names_order::is_raised_name(&bytes[4..4 + n], 10)
 }
 
-// The record at the front of bytes, behind so many profiles and the name of the last of them.
+// The record at the front of bytes, after so many profiles and the name of the last of them.
 fn next_record(bytes: &[u8], before: &[u8], count: usize) -> Step
     requires { ⌜ 0 < length (now bytes) ⌝ }
     ensures { λ r. ⌜ Stepped count (now (before .entry)) (now (bytes .entry)) r ⌝ }
@@ -121,7 +121,7 @@ fn find_here(found: Found, bytes: &[u8], n: usize, at: usize, name: &[u8]) -> Fo
     }
 }
 
-// The records behind the version byte, and the profile of a name among them.
+// The records after the version byte, and the profile of a name among them.
 fn scan_records(table: &[u8], name: &[u8]) -> Scan
     requires { ⌜ 0 < length (now table) ⌝ }
     ensures { λ r. ⌜ r ≡ scanned (now (name .entry)) (recordsBehind 0 [] (drop 1 (now (table .entry)))) ⌝ }

@@ -5,7 +5,7 @@ ghost use lib.ListN.{take, drop};
 ghost use Rattle.profile.specs.Profile.{version1, desAllowed, desToken, shaToken};
 ghost use Rattle.profile.specs.Table.{nameLengthAt, profileAt};
 
-// The bytes of a table from a place on, or none behind its end.
+// The bytes of a table from a place on, or none after its end.
 fn record_at(table: &[u8], at: usize) -> &[u8]
     ensures { λ r. ⌜ now r ≡ drop at (now (table .entry)) ⌝ }
 {

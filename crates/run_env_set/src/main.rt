@@ -78,7 +78,7 @@ fn run(text: &[u8]) {
     }
 }
 
-// Behind what is read stand zeros, which end no line.
+// The buffer is zero after the input, so no line ends there.
 fn main() {
     let mut input = [0u8; 1024];
     io::read_full(0, &mut input);

@@ -71,7 +71,7 @@ fn run_texts(letter: u8, name: &[u8], password: &[u8], server_seed: u64, client_
     io::write_all(1, b" no");
 }
 
-// The name begins behind the seeds and the two counts.
+// The name begins after the seeds and the two counts.
 fn run_case(letter: u8, name_length: u8, password_length: u8, case: &[u8]) {
     let password = 18 + name_length as usize;
     let end = password + password_length as usize;

@@ -33,7 +33,7 @@ fn make_in(room: usize, name: &[u8], password: &[u8], enabled: bool, des_allowed
     }
 }
 
-// The name begins behind the marks, the room and the two lengths.
+// The name begins after the marks, the room and the two lengths.
 fn run_case(room: u8, name_length: u8, password_length: u8, case: &[u8]) {
     let n = name_length as usize;
     make_in(

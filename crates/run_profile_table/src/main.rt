@@ -1,5 +1,5 @@
 // Runs the check and the look-up of profile tables on the cases of standard input, one a line: what is written first, a colon, and in hexadecimal digits 00 or
-// 01, how many bytes the name to look up has, the name, and the table. Behind 01, what is given stands behind the version byte and 500 good records, whose
+// 01, how many bytes the name to look up has, the name, and the table. After 01, what is given stands after the version byte and 500 good records, whose
 // names are A100 to A599 and whose tokens are text.
 //
 // A line of output is how many profiles the table has, and then the place of the name's record, its two marks (01 where one is set) and its two tokens.
@@ -50,7 +50,7 @@ fn put_record(n: u64, table: &mut [u8], at: usize) -> usize {
     show::put_text(b"by DES, by SHA-1: 20 bytes..", table, tokens)
 }
 
-// Puts the records of the numbers from 100 up to one; the answer is the place behind them.
+// Puts the records of the numbers from 100 up to one; the answer is the place after them.
 fn put_records(end: u64, table: &mut [u8], at: usize) -> usize {
     let mut place = at;
     let mut n: u64 = 100;
@@ -71,7 +71,7 @@ fn run_given(first: usize, end: u64, name: &[u8], given: &[u8]) {
     }
 }
 
-// The name begins behind the first two bytes.
+// The name begins after the first two bytes.
 fn run_case(first: u8, name_length: u8, case: &[u8]) {
     let n = name_length as usize;
     run_given(

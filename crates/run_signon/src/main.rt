@@ -33,7 +33,7 @@ fn say_answer(answer: Answer) {
     }
 }
 
-// A sign-on whose parts stand one behind the other from the fourth byte on.
+// A sign-on whose parts stand one after the other from the fourth byte on.
 fn sign_on(seed_length: u8, table_high: u8, table_low: u8, case: &[u8]) {
     let table = 3 + seed_length as usize;
     let payload = table + 256 * table_high as usize + table_low as usize;
@@ -73,7 +73,7 @@ fn run(text: &[u8]) {
     }
 }
 
-// Behind what is read stand zeros, which end no line.
+// The buffer is zero after the input, so no line ends there.
 fn main() {
     let mut input = [0u8; 65536];
     io::read_full(0, &mut input);

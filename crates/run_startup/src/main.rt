@@ -44,7 +44,7 @@ fn verdict_of(b: u8) -> Verdict {
     }
 }
 
-// The system's name begins behind the fault, the verdict, the room and its own length; the device's is the rest.
+// The system's name begins after the fault, the verdict, the room and its own length; the device's is the rest.
 fn run_case(room: u8, system_length: u8, case: &[u8]) {
     let n = system_length as usize;
     respond_in(

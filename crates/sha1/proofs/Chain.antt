@@ -1,4 +1,4 @@
--- The laws of the chain: one block more, and blocks one behind the other. Assumes nothing.
+-- The laws of the chain: one block more, and blocks one after the other. Assumes nothing.
 use mathlib.Core.Path.{_≡_, refl}
 use mathlib.Core.List.{List, [], _∷_, _++_}
 use Prim.Native.Nat.{ℕ, _+_, _≤_, _<_}
@@ -14,7 +14,7 @@ unfolding hashed
 hashed-append H [] d = refl
 hashed-append H (m ∷ b) d = hashed-append (compressed H m) b d
 
--- the blocks from a place on: one, and those behind it; none
+-- the blocks from a place on: one, and those after it; none
 pub hashed-more : (H : Five) (l : List ℕ) (at : ℕ) → at + 64 ≤ length l
     → hashed H (cut 64 (drop at l)) ≡ hashed (compressed H (take 64 (drop at l))) (cut 64 (drop (at + 64) l))
 unfolding hashed

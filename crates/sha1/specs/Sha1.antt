@@ -85,7 +85,7 @@ unfoldable pub hashed : Five → List (List ℕ) → Five
 hashed H [] = H
 hashed H (block ∷ blocks) = hashed (compressed H block) blocks
 
--- the message digest: H₀ to H₄ one behind the other
+-- the message digest: H₀ to H₄ one after the other
 unfoldable pub digestOf : Five → List ℕ
 digestOf H = bytes 4 (H .a) ++ (bytes 4 (H .b) ++ (bytes 4 (H .c) ++ (bytes 4 (H .d) ++ bytes 4 (H .e))))
 

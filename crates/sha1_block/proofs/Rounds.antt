@@ -68,7 +68,7 @@ carried-one block t w s x h p H r =
     let n : length (take t w) ≡ t = length-take-le t w (omega arith) in
     record { plan = rw e (p ∙ r .plan); variables = rw (e, rounds-append 0 (take t w) (x ∷ []) H, n, zero-add, ← r .variables) }
 
--- behind the last round
+-- after the last round
 pub rounded-last : (block : List ℕ) (H : Five) (w : List ℕ) (s : Five) → length block ≡ 64 → Rounded block H 80 w s
     → s ≡ rounds 0 (schedule block) H
 unfolding extended

@@ -19,7 +19,7 @@ use Rattle.sha1.proofs.Chain.{hashed-append}
 pub bits-of : (n : ℕ) → bytes 8 (n * 8 % 2 ^ 64) ≡ bytes 8 (8 * n)
 bits-of n = bytes-mod 8 (n * 8) ∙ ap (bytes 8) (mul-comm n 8)
 
--- what is left of a message behind its whole blocks
+-- what is left of a message after its whole blocks
 abbrev pub left : List ℕ → List ℕ
 left m = drop (length m / 64 * 64) m
 

@@ -40,7 +40,7 @@ pub spaced-next : (s : List ℕ) (i : ℕ) → i < length s → spacedText (drop
 unfolding spacedText
 spaced-next s i h = rw (at-front s i h)
 
--- behind the last byte there are no digits
+-- after the last byte there are no digits
 pub bytes-none : (s : List ℕ) (i : ℕ) → length s ≤ i + 1 → hexBytes (drop i s) ≡ []
 bytes-none s i h = empty (hexBytes (drop i s)) (rw (length-bytes, length-drop) (omega arith))
 

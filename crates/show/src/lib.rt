@@ -1,4 +1,4 @@
-// Text for programs that show what the libraries do: lines and hexadecimal digits in; bytes, words and numerals out, put one behind the other into
+// Text for programs that show what the libraries do: lines and hexadecimal digits in; bytes, words and numerals out, put one after the other into
 // a lent buffer. Each is total, and where something does not fit nothing is written.
 ghost use mathlib.Core.Path.{_≡_};
 ghost use Prim.Native.Nat.{_+_, _≤_, _<_};
@@ -61,7 +61,7 @@ fn put_pair(b: u8, out: &mut [u8], at: usize)
     out[at + 1] = hex_digit(b % 16);
 }
 
-// Puts bytes as hexadecimal digits, two each, lower case, at a place of the buffer; the answer is the place behind them.
+// Puts bytes as hexadecimal digits, two each, lower case, at a place of the buffer; the answer is the place after them.
 pub fn put_hex(bytes: &[u8], out: &mut [u8], at: usize) -> usize
     ensures { λ r. ⌜ outcome r (now (out .exit)) ≡ placed (hexText (now (bytes .entry))) (now (out .entry)) at ⌝ }
 {
@@ -102,7 +102,7 @@ pub fn put_hex_spaced(bytes: &[u8], out: &mut [u8], at: usize) -> usize
     end
 }
 
-// Puts words at a place of the buffer; the answer is the place behind them.
+// Puts words at a place of the buffer; the answer is the place after them.
 pub fn put_text(words: &[u8], out: &mut [u8], at: usize) -> usize
     ensures { λ r. ⌜ outcome r (now (out .exit)) ≡ placed (now (words .entry)) (now (out .entry)) at ⌝ }
 {
@@ -112,7 +112,7 @@ pub fn put_text(words: &[u8], out: &mut [u8], at: usize) -> usize
     at
 }
 
-// Puts the decimal numeral of a number at a place of the buffer; the answer is the place behind it.
+// Puts the decimal numeral of a number at a place of the buffer; the answer is the place after it.
 pub fn put_number(n: u64, out: &mut [u8], at: usize) -> usize
     ensures { λ r. ⌜ outcome r (now (out .exit)) ≡ placed (decimal n) (now (out .entry)) at ⌝ }
 {

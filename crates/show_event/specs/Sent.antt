@@ -1,4 +1,4 @@
--- Events at places of a line: what is read there and what is written there, with the place behind it.
+-- Events at places of a line: what is read there and what is written there, with the place after it.
 use mathlib.Core.List.{List, [], _∷_, _++_}
 use Prim.Native.Nat.{ℕ, _+_}
 use lib.Dec.{ltb}
@@ -12,26 +12,26 @@ use Rattle.telnet_writer.specs.declared.Written.{Written}
 use Rattle.telnet_writer.specs.declared.Written.the-variants.{Wrote, Refused}
 use Rattle.telnet_writer.specs.Promise.{writeOf}
 
--- the place behind what stands at a place
+-- the place after what stands at a place
 abbrev pub nextPlace : ℕ → Answer → ℕ
 nextPlace at End = at
 nextPlace at (Found kind length next) = next
 nextPlace at (NotRead number) = at
 
--- the place behind what was written
+-- the place after what was written
 abbrev pub placeBehind : ℕ → Written → ℕ
 placeBehind at (Wrote n) = at + n
 placeBehind at (Refused number) = at
 
--- what the writer leaves, behind what stands before the place
+-- what the writer leaves, after what stands before the place
 abbrev pub behindPlace : List ℕ → ℕ → Outcome Written → Outcome ℕ
 behindPlace line at o = outcome (placeBehind at (o .answer)) (take at line ++ o .lent)
 
--- nothing is written at a place behind the end
+-- nothing is written at a place after the end
 unfoldable pub sentAt : Event → List ℕ → ℕ → Outcome ℕ
 sentAt e line at = if ltb (length line) at then outcome at line else behindPlace line at (writeOf e (drop at line))
 
--- events one behind the other
+-- events one after the other
 unfoldable pub sentAll : List Event → List ℕ → ℕ → Outcome ℕ
 sentAll [] line at = outcome at line
 sentAll (e ∷ es) line at = sentAll es (sentAt e line at .lent) (sentAt e line at .answer)

@@ -71,7 +71,7 @@ fn say_meaning(answer: Answer) {
     }
 }
 
-// The place behind what stands at a place.
+// The place after what stands at a place.
 fn behind(at: usize, answer: Answer) -> usize
     ensures { λ r. ⌜ r ≡ nextPlace at answer ⌝ }
 {
@@ -86,7 +86,7 @@ fn behind(at: usize, answer: Answer) -> usize
     }
 }
 
-// Begins a line with who sends, and the event at a place of the line; the answer is the place behind it.
+// Begins a line with who sends, and the event at a place of the line; the answer is the place after it.
 pub fn say_event(sender: Sender, line: &[u8], at: usize) -> usize
     ensures { λ r. ⌜ r ≡ nextPlace at (lookAt (now (line .entry)) at) ⌝ }
 {
@@ -97,7 +97,7 @@ pub fn say_event(sender: Sender, line: &[u8], at: usize) -> usize
     behind(at, answer)
 }
 
-// Writes an event at a place of the line; the answer is the place behind it. Where it is refused, or the place is behind the end, nothing is written.
+// Writes an event at a place of the line; the answer is the place after it. Where it is refused, or the place is after the end, nothing is written.
 fn put_event(kind: Kind, payload: &[u8], line: &mut [u8], at: usize) -> usize
     ensures { λ r. ⌜ outcome r (now (line .exit)) ≡ sentAt (event kind (now (payload .entry))) (now (line .entry)) at ⌝ }
 {
@@ -111,7 +111,7 @@ fn put_event(kind: Kind, payload: &[u8], line: &mut [u8], at: usize) -> usize
     }
 }
 
-// Sends an event, behind what was sent before it, and says it; the answer is the place behind it.
+// Sends an event, after what was sent before it, and says it; the answer is the place after it.
 pub fn send_event(sender: Sender, kind: Kind, payload: &[u8], line: &mut [u8], at: usize) -> usize
     ensures { λ r. ⌜ outcome r (now (line .exit)) ≡ sentAt (event kind (now (payload .entry))) (now (line .entry)) at ⌝ }
 {

@@ -29,7 +29,7 @@ pub numbers-next : (s : List ℕ) (i : ℕ) → i + 1 < length s → numbersOf (
 unfolding numberIn numbersOf
 numbers-next s i h = rw (pair-front s i h)
 
--- behind the last pair there are no numbers
+-- after the last pair there are no numbers
 pub numbers-none : (s : List ℕ) (i : ℕ) → length s ≤ i + 1 → numbersOf (drop i s) ≡ []
 numbers-none s i h = empty (numbersOf (drop i s)) (rw (length-numbers, length-drop) (omega arith))
 

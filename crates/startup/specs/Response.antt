@@ -48,7 +48,7 @@ infix 4 _is_
 abbrev pub _is_ : String → List ℕ → Field
 n is bs = record { name = n; bytes = bs }
 
--- the fields in the figures' order; behind the names there are zeros up to byte 73
+-- the fields in the figures' order; after the names there are zeros up to byte 73
 unfoldable pub fields : Bool → Verdict → List ℕ → List ℕ → List Field
 fields fault v system device =
     ("Length pass-through data" is 0x00 ∷ 0x49 ∷ [])
@@ -60,7 +60,7 @@ fields fault v system device =
     ∷ ("End of diagnostic information" is replicate 35 0)
     ∷ []
 
--- fields one behind the other
+-- fields one after the other
 unfoldable pub joined : List Field → List ℕ
 joined [] = []
 joined (f ∷ fs) = f .bytes ++ joined fs

@@ -1,4 +1,4 @@
--- The fields of a record, put one behind the other, are the record. Assumes nothing.
+-- The fields of a record, put one after the other, are the record. Assumes nothing.
 use mathlib.Core.Path.{_≡_, refl, sym, ap, _∙_}
 use mathlib.Core.Bool.{Bool, true, false}
 use mathlib.Core.List.{List, [], _∷_, _++_, append-assoc, append-nil}

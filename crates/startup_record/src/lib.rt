@@ -67,7 +67,7 @@ fn fixed_fields(code: [u8; 4]) -> [u8; 12]
     ]
 }
 
-// Puts the fields one behind the other to the front of the buffer.
+// Puts the fields one after the other to the front of the buffer.
 fn put_fields(code: [u8; 4], system: &[u8], device: &[u8], out: &mut [u8])
     requires { ⌜ Fits code (now system) (now device) (now out) ⌝ }
     ensures { λ _. ⌜ now (out .exit) ≡ overwrite (now (out .entry)) 0 (laidOut code (now (system .entry)) (now (device .entry))) ⌝ }

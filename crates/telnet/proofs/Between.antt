@@ -1,4 +1,4 @@
--- A record is all data up to the next end-of-record, and reading goes on behind it (`record-is-all-data`); written, it is read back
+-- A record is all data up to the next end-of-record, and reading goes on after it (`record-is-all-data`); written, it is read back
 -- (`record-reads-back`): the theorems `Theorems.RecordIsAllData` and `Theorems.RecordReadsBack`. Assumes nothing.
 use mathlib.Core.Path.{_≡_, refl, sym, ap, _∙_}
 use mathlib.Core.Bool.{Bool, true, false, not}
@@ -22,7 +22,7 @@ use Rattle.octets.specs.Choice.{if_then_else_}
 same-reads : {es fs : List Event} {a b : Ending} → reads es a ≡ reads fs b → (es ≡ fs) × (a ≡ b)
 same-reads e = (ap (λ (r : Reading). r .events) e, ap (λ (r : Reading). r .ending) e)
 
--- reading goes on behind the first event
+-- reading goes on after the first event
 pub behind-first : (bs : List ℕ) (e : Event) (es : List Event) (how : Ending) → reading bs ≡ reads (e ∷ es) how
     → reading (drop (length (written e)) bs) ≡ reads es how
 unfolding readOn
@@ -38,7 +38,7 @@ behind-first bs e es how h = go (eventOf bs) (sym (unrolled bs) ∙ h)
         let rest : reads (r .events) (r .ending) ≡ reads es how = cc in
         rw (← same) rest
 
--- and behind the first events
+-- and after the first events
 pub behind-all : (bs : List ℕ) (es fs : List Event) (how : Ending) → reading bs ≡ reads (es ++ fs) how
     → reading (drop (length (writtenAll es)) bs) ≡ reads fs how
 unfolding writtenAll

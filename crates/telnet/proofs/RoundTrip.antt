@@ -185,7 +185,7 @@ stopped-behind e (f ∷ es) r s w =
     other true u h n = n
     other false u h n = absurd h
 
--- an event that was written is read, if what stops it is behind it
+-- an event that was written is read, if what stops it is after it
 pub read-first : (e : Event) (bs : List ℕ) → T (writable e) → (T (isRun e) → Stopped bs)
     → reading (written e ++ bs) ≡ before (e ∷ []) (reading bs)
 unfolding reading readingFrom stepByte ended leads written writable isRun

@@ -89,7 +89,7 @@ stretch (b ∷ c ∷ bs) = go (eqb b iac) refl (eqb c iac) refl (stretch (c ∷ 
     go true e true f s s′ = longer-by-two b c bs e f s′
     go true e false f s s′ = stops-here (b ∷ c ∷ bs) (rw (e, f)) (at-command e f)
 
--- the bytes behind a stretch are the rest
+-- the bytes after a stretch are the rest
 pub after-stretch : (bs : List ℕ) (s : Stretched bs) → drop (length (doubled (undoubled bs))) bs ≡ s .rest
 after-stretch bs s = ap (drop (length (doubled (undoubled bs)))) (s .whole) ∙ drop-append-seam (doubled (undoubled bs)) (s .rest)
 
@@ -98,7 +98,7 @@ pub one-step : (m : Mode) (b : ℕ) (bs : List ℕ) {es : List Event} {m′ : Mo
 unfolding readingFrom
 one-step m b bs e = rw e
 
--- two modes that collect bytes, at most n: σ in the stretch, ε behind a 255 there
+-- two modes that collect bytes, at most n: σ in the stretch, ε after a 255 there
 pub record Absorbs (σ ε : List ℕ → Mode) (n : ℕ) : Type 0 where
   pub plain : (p : List ℕ) (b : ℕ) → length p < n → eqb b iac ≡ false → stepByte (σ p) b ≡ goes [] (σ (p ++ b ∷ []))
   pub into : (p : List ℕ) (b : ℕ) → eqb b iac ≡ true → stepByte (σ p) b ≡ goes [] (ε p)

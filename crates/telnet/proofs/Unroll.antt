@@ -57,7 +57,7 @@ full o p b d bs h = go (eqb b iac) refl (le-ltb (length p) payloadLimit (le-of-e
     go true e f = rw (e, e, e, f) (stays-failed payloadTooLong (doubled d ++ bs))
     go false e f = rw (e, e, f) (stays-failed payloadTooLong (doubled d ++ bs))
 
--- the byte behind the last that a payload may have is refused
+-- the byte after the last that a payload may have is refused
 too-long : (o : ℕ) (d bs : List ℕ) → payloadLimit < length d
     → readingFrom (payload o []) (doubled d ++ bs) ≡ reads [] (refusal payloadTooLong)
 too-long o d bs h =
@@ -66,7 +66,7 @@ too-long o d bs h =
     rw (split-at d payloadLimit 0 h, doubled-append, append-assoc)
     (payload-read o p _ (omega arith) ∙ full o p _ _ bs l)
 
--- behind a payload
+-- after a payload
 behind-payload : (b c o : ℕ) (p bs : List ℕ) → Stopped bs
     → readingFrom (payload o p) bs ≡ readOn (b ∷ c ∷ o ∷ (doubled p ++ bs)) (closed o p bs)
 unfolding readingFrom reading stepByte stops readOn closed written
@@ -85,7 +85,7 @@ behind-payload b c o p (x ∷ y ∷ bs) (at-command e f) = rw (e, f) (go (eqb y 
     go true = rw (length-append, drop-append-add)
     go false = stays-failed undoubledIac bs
 
--- behind 255 250
+-- after 255 250
 behind-opening : (b c : ℕ) (bs : List ℕ) → readingFrom opening bs ≡ readOn (b ∷ c ∷ bs) (afterSb bs)
 unfolding readingFrom stepByte stops readOn afterSb
 behind-opening b c [] = refl
@@ -100,7 +100,7 @@ behind-opening b c (o ∷ bs) = go (ltb payloadLimit (length (undoubled bs))) re
         ∙ payload-read o (undoubled bs) (s .rest) (ltb-false payloadLimit (length (undoubled bs)) e)
         ∙ rw (← s .whole) at (behind-payload b c o (undoubled bs) (s .rest) (s .stopped)))
 
--- behind 255 and the byte c
+-- after 255 and the byte c
 behind-lead : (l : Lead) (b c : ℕ) (bs : List ℕ)
     → before (leads [] l c .completes) (readingFrom (leads [] l c .mode) bs) ≡ readOn (b ∷ c ∷ bs) (afterLead l c bs)
 unfolding readingFrom reading stepByte stops leads readOn afterLead afterVerb written

@@ -29,7 +29,7 @@ all-append f (e ∷ es) fs h k =
     let y = and-yes (f e) (all f es) h in
     yes-and (f e) (all f (es ++ fs)) (y .0) (all-append f es fs (y .1) k)
 
--- a byte behind a 255 that begins a simple command is one
+-- a byte after a 255 that begins a simple command is one
 data Begins (c : ℕ) : Lead → Type 0 where
   faulty : Begins c Faulty
   opens : Begins c Opens

@@ -41,7 +41,7 @@ pub data Event : Type 0 where
   negotiation : Verb → ℕ → Event
   subnegotiation : ℕ → List ℕ → Event
 
--- what a byte behind a 255 that is not doubled begins: refused is "a byte below 239, or 240"; 250 opens a subnegotiation, 251 to 254 are
+-- what a byte after a 255 that is not doubled begins: refused is "a byte below 239, or 240"; 250 opens a subnegotiation, 251 to 254 are
 -- the option commands, the others are simple commands
 unfoldable pub lead : ℕ → Lead
 lead c =

@@ -17,7 +17,7 @@ unfoldable mutual
   undoubled [] = []
   undoubled (b ∷ bs) = if eqb b iac then behindIac bs else b ∷ undoubled bs
 
-  -- the same behind a 255
+  -- the same after a 255
   pub behindIac : List ℕ → List ℕ
   behindIac [] = []
   behindIac (c ∷ bs) = if eqb c iac then c ∷ undoubled bs else []
@@ -28,32 +28,32 @@ pub data Front : Type 0 where
   found : Event → Front
   refused : ℕ → Front
 
--- behind a payload: 255 240 closes the subnegotiation, 255 with another byte is refused
+-- after a payload: 255 240 closes the subnegotiation, 255 with another byte is refused
 unfoldable pub closed : ℕ → List ℕ → List ℕ → Front
 closed o p [] = refused cutShort
 closed o p (x ∷ []) = refused cutShort
 closed o p (x ∷ c ∷ rest) = if eqb c se then found (subnegotiation o p) else refused undoubledIac
 
--- behind 255 250: an option byte, then the payload, the longest stretch there
+-- after 255 250: an option byte, then the payload, the longest stretch there
 unfoldable pub afterSb : List ℕ → Front
 afterSb [] = refused cutShort
 afterSb (o ∷ bs) =
     if ltb payloadLimit (length (undoubled bs)) then refused payloadTooLong
     else closed o (undoubled bs) (drop (length (doubled (undoubled bs))) bs)
 
--- behind 255 and an option command: an option byte, raw
+-- after 255 and an option command: an option byte, raw
 unfoldable pub afterVerb : Verb → List ℕ → Front
 afterVerb v [] = refused cutShort
 afterVerb v (o ∷ bs) = found (negotiation v o)
 
--- by what the byte c behind a 255 begins
+-- by what the byte c after a 255 begins
 unfoldable pub afterLead : Lead → ℕ → List ℕ → Front
 afterLead Faulty c bs = refused badCommand
 afterLead Opens c bs = afterSb bs
 afterLead (Negotiates v) c bs = afterVerb v bs
 afterLead Simple c bs = found (command c)
 
--- behind a 255 that is not doubled
+-- after a 255 that is not doubled
 unfoldable pub afterIac : List ℕ → Front
 afterIac [] = refused cutShort
 afterIac (c ∷ bs) = afterLead (lead c) c bs

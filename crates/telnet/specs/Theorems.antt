@@ -58,7 +58,7 @@ unfoldable pub allData : List Event → List ℕ
 allData [] = []
 allData (e ∷ es) = dataOf e ++ allData es
 
--- A record is all data up to the next end-of-record, whatever commands stand between, and reading goes on behind it.
+-- A record is all data up to the next end-of-record, whatever commands stand between, and reading goes on after it.
 abbrev pub RecordIsAllData : Type 0
 RecordIsAllData =
     (bs : List ℕ) (es fs : List Event) (how : Ending) → T (all (λ e. not (isEndOfRecord e)) es) → reading bs ≡ reads (es ++ command eor ∷ fs) how

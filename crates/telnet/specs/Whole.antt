@@ -29,12 +29,12 @@ before es r = reads (es ++ r .events) (r .ending)
 
 -- where a reader stands between two bytes
 pub data Mode : Type 0 where
-  -- in data, with the run so far; behind a 255, with the run before it
+  -- in data, with the run so far; after a 255, with the run before it
   data′ iacSeen : List ℕ → Mode
-  -- behind 255 and an option command; behind 255 250
+  -- after 255 and an option command; after 255 250
   choosing : Verb → Mode
   opening : Mode
-  -- in a payload, with its option and the payload so far; behind a 255 there
+  -- in a payload, with its option and the payload so far; after a 255 there
   payload closing : ℕ → List ℕ → Mode
   -- refused
   failed : ℕ → Mode
@@ -52,7 +52,7 @@ unfoldable pub ended : List ℕ → List Event
 ended [] = []
 ended (d ∷ ds) = run (d ∷ ds) ∷ []
 
--- the byte c behind a 255 that is not doubled, after the events es
+-- the byte c after a 255 that is not doubled, after the events es
 unfoldable pub leads : List Event → Lead → ℕ → Step
 leads es Faulty c = goes es (failed badCommand)
 leads es Opens c = goes es opening

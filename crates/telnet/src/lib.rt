@@ -10,7 +10,7 @@ pub enum Verb {
     Dont,
 }
 
-// What a byte behind a 255 begins: nothing that Telnet has, a subnegotiation, an option command, or a simple command that it is itself.
+// What a byte after a 255 begins: nothing that Telnet has, a subnegotiation, an option command, or a simple command that it is itself.
 pub enum Lead {
     Faulty,
     Opens,

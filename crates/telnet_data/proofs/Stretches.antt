@@ -67,7 +67,7 @@ doubled-front (b ∷ c ∷ bs) h = go (eqb b iac) refl (eqb c iac) refl
     go true e false f = let z : _≡_ {A = Bool} false true = rw (e, f) at h in cc
     go false e u f = let z : _≡_ {A = Bool} false true = rw e at h in cc
 
--- where the plain bytes end, no data stand but behind a doubled 255
+-- where the plain bytes end, no data stand but after a doubled 255
 plain-stops : (bs : List ℕ) → isDoubled (drop (length (upTo iac bs)) bs) ≡ false → undoubled (drop (length (upTo iac bs)) bs) ≡ []
 unfolding undoubled isDoubled upTo
 plain-stops [] h = refl
@@ -85,7 +85,7 @@ plain-stops (b ∷ c ∷ bs) h = go (eqb b iac) refl (eqb c iac) refl (plain-sto
     go true e false f r = rw (e, e, f)
     go false e u f r = rw e (r (rw e at h))
 
--- a piece of the stretch at a place: its bytes, and the place behind it where the stretch goes on
+-- a piece of the stretch at a place: its bytes, and the place after it where the stretch goes on
 pub record Piece (s : List ℕ) (at : ℕ) (d : List ℕ) (i : ℕ) : Type 0 where
   pub bytes : undoubled (drop at s) ≡ d ++ undoubled (drop i s)
   pub place : i ≡ at + length (doubled d)
@@ -109,7 +109,7 @@ module _ {s : List ℕ} {at : ℕ} {d : List ℕ} {i : ℕ} (p : Piece s at d i)
       ap (λ l. length (doubled l)) (p .bytes) ∙ rw (doubled-append, length-append) in
       (omega (arith, doubled-longer d), omega (arith, span-within (drop at s), length-drop at s))
 
-  -- it is the whole where the stretch ends behind it
+  -- it is the whole where the stretch ends after it
   pub whole : undoubled (drop i s) ≡ [] → undoubled (drop at s) ≡ d
   whole e = p .bytes ∙ rw (e, append-nil)
 
@@ -148,7 +148,7 @@ module _ (s : List ℕ) (i : ℕ) where
   unfolding isDoubled
   doubled-pair h = rw (pair-front s i h)
 
--- so many bytes of the stretch at a place are passed, up to a place behind them
+-- so many bytes of the stretch at a place are passed, up to a place after them
 pub record Passed (s : List ℕ) (at i n : ℕ) : Type 0 where
   pub passed : List ℕ
   pub piece : Piece s at passed i

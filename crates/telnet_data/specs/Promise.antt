@@ -18,7 +18,7 @@ span bs = length (doubled (undoubled bs))
 unfoldable pub extentAt : List ℕ → ℕ → Extent
 extentAt s at = record { count = count (drop at s); end = at + span (drop at s) }
 
--- bytes of the stretch at a place, put at a place of a buffer: how many they are, and the place of the line behind them
+-- bytes of the stretch at a place, put at a place of a buffer: how many they are, and the place of the line after them
 unfoldable pub copied : ℕ → List ℕ → ℕ → List ℕ → Outcome Extent
 copied at out to d = outcome (record { count = length d; end = at + length (doubled d) }) (overwrite out to d)
 

@@ -7,7 +7,7 @@ ghost use Rattle.octets.specs.Lent.{outcome};
 ghost use Rattle.telnet_data.specs.Promise.{extentAt, copyRun};
 ghost use Rattle.telnet_data.specs.near.Pieces.{isDoubled, PlainCopied};
 
-// The stretch of data at a place: how many bytes it carries, and the place behind it.
+// The stretch of data at a place: how many bytes it carries, and the place after it.
 pub struct Extent {
     pub count: usize,
     pub end: usize,
@@ -71,7 +71,7 @@ fn copy_plain(s: &[u8], at: usize, out: &mut [u8], to: usize) -> usize
 }
 
 // Copies the stretch of data at a place, each doubled 255 as one, to a place of the buffer, or as much of it as there is room for: how many bytes were
-// copied, and the place of the line behind them.
+// copied, and the place of the line after them.
 pub fn copy_run(s: &[u8], at: usize, out: &mut [u8], to: usize) -> Extent
     ensures { λ r. ⌜ outcome r (now (out .exit)) ≡ copyRun (now (s .entry)) at (now (out .entry)) to ⌝ }
 {

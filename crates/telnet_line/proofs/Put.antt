@@ -1,4 +1,4 @@
--- The laws of `Put`: nothing, what is put behind a text, two texts one behind the other, a text within a wider bound, and a byte behind
+-- The laws of `Put`: nothing, what is put after a text, two texts one after the other, a text within a wider bound, and a byte after
 -- or before a text. Assumes nothing.
 use mathlib.Core.Path.{_≡_, refl, sym, _∙_}
 use mathlib.Core.List.{List, [], _∷_, _++_}
@@ -27,7 +27,7 @@ module _ {x : List ℕ} {m : ℕ} {b : List ℕ} {at r : ℕ} {l : List ℕ} (p 
   pub wider : {n : ℕ} → m ≤ n → Put x n b at r l
   wider h = record { behind = p .behind; bytes = p .bytes; few = omega (arith, p .few) }
 
-  -- a byte behind a text
+  -- a byte after a text
   pub byte-behind : (c : ℕ) → at + (m + 1) ≤ length b → Put (x ++ c ∷ []) (m + 1) b at (r + 1) (set l r c)
   byte-behind c h =
       let k = length-overwrite b at x (omega (arith, p .few)) in

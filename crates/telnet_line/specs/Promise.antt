@@ -11,7 +11,7 @@ use Rattle.refusal.specs.Refusal.{noRoom}
 use Rattle.octets.specs.Choice.{if_then_else_}
 use Rattle.octets.specs.Lent.{Outcome, outcome, overwrite}
 
--- a line of at most 67 bytes as it is handed back: its bytes with zeros behind them, and their number
+-- a line of at most 67 bytes as it is handed back: its bytes with zeros after them, and their number
 unfoldable pub textOfLine : List ℕ → LineText
 textOfLine words = record { bytes = overwrite (replicate 67 0) 0 words; length = length words }
 

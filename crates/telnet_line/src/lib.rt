@@ -14,7 +14,7 @@ pub enum Listed {
     Refused(u8),
 }
 
-// The text of a line with zeros behind it, and its length: no line is longer than 67 bytes.
+// The text of a line with zeros after it, and its length: no line is longer than 67 bytes.
 pub struct LineText {
     pub bytes: [u8; 67],
     pub length: usize,

@@ -1,5 +1,5 @@
-// The text of a line: what it says is found by value, and its pieces are then put one behind the other. Each function that puts a piece
-// answers the place behind it, and says how many bytes that can be at most: 20 for a numeral, 45 for what is said, 67 for a line.
+// The text of a line: what it says is found by value, and its pieces are then put one after the other. Each function that puts a piece
+// answers the place after it, and says how many bytes that can be at most: 20 for a numeral, 45 for what is said, 67 for a line.
 ghost use mathlib.Core.Path.{_≡_};
 ghost use mathlib.Core.List.{_++_};
 ghost use Prim.Native.Nat.{_+_, _≤_};
@@ -13,13 +13,13 @@ use telnet::Kind;
 use telnet::Verb;
 use telnet_reader::Answer;
 
-// A word with zeros behind it, and its length.
+// A word with zeros after it, and its length.
 struct Word {
     bytes: [u8; 7],
     length: usize,
 }
 
-// What a line says: a word, and up to two numbers behind it.
+// What a line says: a word, and up to two numbers after it.
 pub(crate) struct Phrase {
     word: Word,
     one: bool,

@@ -31,7 +31,7 @@ pub lines-all : (s : List ℕ) → linesAt s 0 ≡ listing s
 unfolding linesAt listing
 lines-all s = refl
 
--- what is left to list behind what stands at a place
+-- what is left to list after what stands at a place
 abbrev pub behind : List ℕ → Answer → List ℕ
 behind s End = []
 behind s (Found k n next) = linesAt s next
@@ -55,7 +55,7 @@ module _ (s : List ℕ) (i : ℕ) (h : i ≤ length s) where
       → length (linesAt s i) ≡ length (line i (answerText r)) + length (behind s q)
   turn-length {r} {q} e g = ap length (turn e g) ∙ length-append (line i (answerText r)) (behind s q)
 
-  -- a turn puts its line, and then come the lines behind it
+  -- a turn puts its line, and then come the lines after it
   pub turn-put : {r q : Answer} → r ≡ lookAt s i → r ≡ q → (b : List ℕ) (at : ℕ) {l : List ℕ} {n : ℕ}
       → at + length (linesAt s i) ≤ length b → l ≡ overwrite b at (line i (answerText r)) → n ≡ length (line i (answerText r))
       → overwrite l (at + n) (behind s q) ≡ overwrite b at (linesAt s i)

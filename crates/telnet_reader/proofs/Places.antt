@@ -20,7 +20,7 @@ use Rattle.telnet_data.specs.Promise.{count, span}
 use Rattle.telnet_reader.specs.Promise.{answered, lookAt}
 use Rattle.octets.proofs.Front.{empty, at-front, pair-front}
 
--- behind a stretch at place i
+-- after a stretch at place i
 pub behind : (s : List ℕ) (i : ℕ) → drop (length (doubled (undoubled (drop i s)))) (drop i s) ≡ drop (i + span (drop i s)) s
 unfolding span
 behind s i = drop-drop (length (doubled (undoubled (drop i s)))) i s
@@ -39,7 +39,7 @@ module _ (s : List ℕ) (at : ℕ) where
   unfolding answered afterSb
   sb-cut h = rw (drop-of-length-le s {i = at + 2} h)
 
-  -- the place behind the payload
+  -- the place after the payload
   abbrev tail : ℕ
   tail = at + 3 + span (drop (at + 3) s)
 
@@ -80,7 +80,7 @@ module _ (s : List ℕ) (at : ℕ) where
         rw (opened-closed h k, pair-front s tail g, eq-eqb (getD s (tail + 1) 0) se e)
         (ap (Found (Subnegotiation (getD s (at + 2) 0)) (count (drop (at + 3) s))) l)
 
-  -- behind a 255 at the place
+  -- after a 255 at the place
   pub iac-cut : length s ≤ at + 1 → answered at (afterIac (drop (at + 1) s)) ≡ Refused cutShort
   unfolding answered afterIac
   iac-cut h = rw (drop-of-length-le s {i = at + 1} h)

@@ -12,7 +12,7 @@ use telnet::Kind;
 use telnet::Lead;
 use telnet::Verb;
 
-// What stands at a place: nothing more, an event with the number of bytes that it carries and the place behind it, or a refusal.
+// What stands at a place: nothing more, an event with the number of bytes that it carries and the place after it, or a refusal.
 pub enum Answer {
     End,
     Found {
@@ -23,7 +23,7 @@ pub enum Answer {
     Refused(u8),
 }
 
-// What stands at a 255 with the byte behind it.
+// What stands at a 255 with the byte after it.
 fn command(s: &[u8], at: usize) -> Answer
     requires { ⌜ at < length (now s) ⌝ }
     ensures { λ r. ⌜ r ≡ answered at (afterIac (drop (at + 1) (now (s .entry)))) ⌝ }
@@ -90,7 +90,7 @@ fn subnegotiation(s: &[u8], at: usize) -> Answer
     }
 }
 
-// The event at a place: its kind, how many bytes it carries, and the place behind it. Nothing is copied.
+// The event at a place: its kind, how many bytes it carries, and the place after it. Nothing is copied.
 pub fn look(s: &[u8], at: usize) -> Answer
     ensures { λ r. ⌜ r ≡ lookAt (now (s .entry)) at ⌝ }
 {

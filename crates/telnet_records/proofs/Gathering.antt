@@ -163,7 +163,7 @@ module _ (s : List ℕ) (i : ℕ) (h : i ≤ length s) where
   unfolding dataAt recordData
   data-refused n e = rw (record-refused (drop i s) n (event-refused n e))
 
-  -- where data are left, the event's own stand at the place and the others behind it
+  -- where data are left, the event's own stand at the place and the others after it
   pub data-goes : (k : Kind) (l x : ℕ) → lookAt s i ≡ Found k l x → 0 < length (dataAt s i)
       → (dataLength k l ≡ length (undoubled (drop i s))) × (dataAt s i ≡ undoubled (drop i s) ++ dataAt s x)
   unfolding dataAt recordData
@@ -176,7 +176,7 @@ module _ (s : List ℕ) (i : ℕ) (h : i ≤ length s) where
         left (drop i s) (v .event) (v .is) some ∙ ap₂ (λ d bs. d ++ recordData (recordOf bs)) (p .data-is) behind,
       )
 
-  -- the record from the place on, behind n bytes of data, by what `look` answers there
+  -- the record from the place on, after n bytes of data, by what `look` answers there
   module _ (n : ℕ) where
     pub sized-end : lookAt s i ≡ End → sizedAt s n i ≡ Unfinished
     unfolding sizedAt sized answerNoRecord

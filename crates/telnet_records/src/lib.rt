@@ -10,14 +10,14 @@ use telnet::Kind;
 use telnet_data::Extent;
 use telnet_reader::Answer;
 
-// A record, with the number of its bytes and the place behind it; no end-of-record before the input ended; or a refusal.
+// A record, with the number of its bytes and the place after it; no end-of-record before the input ended; or a refusal.
 pub enum Record {
     Complete { length: usize, next: usize },
     Unfinished,
     Refused(u8),
 }
 
-// What one event makes of a record: more of it is to come from a place on, behind so much data; or it is known.
+// What one event makes of a record: more of it is to come from a place on, after so much data; or it is known.
 pub enum Progress {
     More { place: usize, count: usize },
     Done(Record),
@@ -74,7 +74,7 @@ fn advance(s: &[u8], at: usize, count: usize) -> Progress
     }
 }
 
-// The record from a place on: its length and the place behind it. Nothing is copied.
+// The record from a place on: its length and the place after it. Nothing is copied.
 fn find_record(s: &[u8], at: usize) -> Record
     requires { ⌜ at ≤ length (now s) ⌝ }
     ensures { λ r. ⌜ r ≡ sizedAt (now (s .entry)) 0 at ⌝ }
@@ -95,7 +95,7 @@ fn find_record(s: &[u8], at: usize) -> Record
     Record::Unfinished
 }
 
-// The place behind the event at a place, which adds nothing to a record.
+// The place after the event at a place, which adds nothing to a record.
 fn pass_event(s: &[u8], at: usize) -> usize
     requires { ⌜ CanPass (now s) at ⌝ }
     ensures { λ r. ⌜ Passed (now (s .entry)) at r ⌝ }
@@ -117,7 +117,7 @@ fn pass_event(s: &[u8], at: usize) -> usize
     }
 }
 
-// Copies what the event at a place adds to a record, behind `to` bytes of it. A run is found and copied in one pass.
+// Copies what the event at a place adds to a record, after `to` bytes of it. A run is found and copied in one pass.
 fn copy_event(s: &[u8], at: usize, out: &mut [u8], to: usize) -> Extent
     requires { ⌜ CanCopy (now s) at (now out) to ⌝ }
     ensures { λ r. ⌜ Copied (now (s .entry)) at (now (out .entry)) to (now (out .exit)) r ⌝ }

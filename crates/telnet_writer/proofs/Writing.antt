@@ -81,7 +81,7 @@ module _ (e : Event) (out : List ℕ) where
   unfolding writeOf
   fitting w h g k = rw (w, le-ltb (length out) (length (written e)) h, g, k)
 
--- a run that was put, by the place behind it
+-- a run that was put, by the place after it
 module _ (d out : List ℕ) (full : length d ≡ 0 → ⊥) (n : ℕ) (l : List ℕ) (e : outcome n l ≡ putMarked iac iac iac d out 0) where
   pub run-not-fitting : n ≡ 0 → outcome (Refused noRoom) l ≡ writeOf (run d) out
   unfolding written

@@ -43,7 +43,7 @@ fn write_run(bytes: &[u8], out: &mut [u8]) -> Written
     if bytes.len() == 0 {
         return Written::Refused(refusal::NOT_WRITABLE);
     }
-    // some bytes end behind the front, so that the front itself says that they do not fit
+    // `put_marked` answers `at` where the text does not fit; a run is not empty, so 0 means nothing else.
     let n = octets_marked::put_marked(bytes, 255, 255, 255, out, 0);
     if n == 0 {
         return Written::Refused(refusal::NO_ROOM);

@@ -49,14 +49,14 @@ weight k =
     let e : 8 * suc k ≡ 8 * k + 8 = omega arith in
     rw (e, pow-add 2 (8 * k) 8)
 
--- a byte more behind the others
+-- a byte more after the others
 pub number-snoc : (l : List ℕ) (b : ℕ) → number (l ++ b ∷ []) ≡ number l * 256 + b
 number-snoc [] b = omega arith
 number-snoc (x ∷ xs) b =
     let e : length (xs ++ b ∷ []) ≡ suc (length xs) = rw length-append (omega arith) in
     rw (e, weight (length xs), number-snoc xs b) (omega (arith, mul-assoc x (2 ^ (8 * length xs)) 256))
 
--- a number of i bytes shifted by one byte within a word of eight, and a byte put behind it
+-- a number of i bytes shifted by one byte within a word of eight, and a byte put after it
 pub joined-byte : (n b i : ℕ) → n < 2 ^ (8 * i) → i < 8 → b < 256 → bitOr (n * 256 % 2 ^ 64) b ≡ n * 256 + b
 joined-byte n b i h k g =
     let small : 2 ^ (8 * i) ≤ 2 ^ 56 = pow-mono {i = 8 * i} {j = 56} (omega arith) in

@@ -1,4 +1,4 @@
--- The laws of pieces: one more, none, how many, and those of a list with more behind it.
+-- The laws of pieces: one more, none, how many, and those of a list with more after it.
 -- Assumes nothing.
 use mathlib.Core.Path.{_≡_, refl, ap}
 use mathlib.Core.List.{List, [], _∷_, _++_}

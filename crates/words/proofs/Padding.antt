@@ -25,7 +25,7 @@ zeros-solve B L ℓ h g =
     let e : ℓ + 1 + zeroBits B L ℓ ≡ (ℓ + L) / B * B + (B - L) = omega (arith, filled B L ℓ b) in
     rw e (digits-mod ((ℓ + L) / B) l)
 
--- another solution with the length behind it ends at a block's end too, behind the blocks that the message and the length alone fill
+-- another solution with the length after it ends at a block's end too, after the blocks that the message and the length alone fill
 zeros-least : (B L ℓ : ℕ) → L ≤ B → (j : ℕ) → (ℓ + 1 + j) % B ≡ B - L → zeroBits B L ℓ ≤ j
 unfolding zeroBits
 zeros-least B L ℓ g j e =
@@ -40,7 +40,7 @@ zeros-least B L ℓ g j e =
 pub fewest-zero-bits : FewestZeroBits
 fewest-zero-bits B L ℓ h g = record { solves = zeros-solve B L ℓ h g; least = zeros-least B L ℓ g }
 
--- for blocks of b bytes and a length of f bytes, behind a message of n bytes
+-- for blocks of b bytes and a length of f bytes, after a message of n bytes
 module _ (b f : ℕ) (h : 0 < b) where
   -- the byte with the bit 1, the zero bytes and the length fill the block in which they begin, or that and the next
   pub zero-bytes : (n : ℕ) → n + 1 + zeroBits (8 * b) (8 * f) (8 * n) / 8 + f ≡ (n + f) / b * b + b

@@ -16,7 +16,7 @@ use Rattle.words.proofs.BigEndian.{length-bytes}
 use Rattle.words.proofs.Padding.{zero-bytes}
 
 module _ (b f : ℕ) (small : f < b) where
-  -- behind fewer bytes than a block there is room for the bit and the length in two
+  -- after fewer bytes than a block there is room for the bit and the length in two
   pub end-above : (n : ℕ) → n + f < end b f n
   end-above n = omega (arith, div-add-mod' (n + f) b, mod-lt (n + f) {m = b} (omega arith))
 

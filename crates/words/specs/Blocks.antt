@@ -9,7 +9,7 @@ unfoldable pub pieces : ℕ → ℕ → List ℕ → List (List ℕ)
 pieces zero k l = []
 pieces (suc n) k l = take k l ∷ pieces n k (drop k l)
 
--- all pieces of k; what is left behind the last whole one is in none
+-- all pieces of k; what is left after the last whole one is in none
 unfoldable pub cut : ℕ → List ℕ → List (List ℕ)
 cut k l = pieces (length l / k) k l
 

@@ -1,12 +1,12 @@
--- The padding of a message: FIPS 180-4, section 5.1, over the bits of a block, B, and of the length behind it, L: 512 and 64 for SHA-1 and
--- SHA-256, 1024 and 128 for SHA-512. Messages are bytes, so the bit 1 with the zeros behind it is a byte 128 and bytes 0.
+-- The padding of a message: FIPS 180-4, section 5.1, over the bits of a block, B, and of the length after it, L: 512 and 64 for SHA-1 and
+-- SHA-256, 1024 and 128 for SHA-512. Messages are bytes, so the bit 1 with the zeros after it is a byte 128 and bytes 0.
 use mathlib.Core.Path.{_≡_}
 use mathlib.Core.List.{List, _∷_, _++_}
 use Prim.Native.Nat.{ℕ, _+_, _-_, _*_, _/_, _%_, _≤_, _<_}
 use lib.ListN.{length, replicate}
 use Rattle.words.specs.BigEndian.{bytes}
 
--- how many zero bits stand behind the bit 1 of a message of ℓ bits
+-- how many zero bits stand after the bit 1 of a message of ℓ bits
 unfoldable pub zeroBits : ℕ → ℕ → ℕ → ℕ
 zeroBits B L ℓ = B - 1 - (ℓ + L) % B
 

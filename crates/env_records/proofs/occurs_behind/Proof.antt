@@ -46,7 +46,7 @@ enum-told c = search needs
 enum-told-2 : tie.Need-enum-told-2
 enum-told-2 c = search needs
 
--- a value has a place exactly where a record behind has the kind and the name
+-- a value has a place exactly where a record after has the kind and the name
 behind : (c : tie.After-find) → let s = c .before .before .before .before .before .before .args in
     let v = variableOf (s .bytes .now) (recordAt (s .numbers .now) (s .i)) in
     there (c .find .result) ≡ among (v .kind) (v .name) (held (s .bytes .now) (drop (recordWidth * (s .i + 1)) (s .numbers .now)))

@@ -1,4 +1,4 @@
--- `env_text::copy_text` meets its contract. The loop's invariant: what the text still has from here, put behind what was copied, gives the whole
+-- `env_text::copy_text` meets its contract. The loop's invariant: what the text still has from here, put after what was copied, gives the whole
 -- copy. The measure is how many bytes are still to come. Assumes nothing.
 use mathlib.Core.Path.{_≡_, refl, sym, ap, _∙_}
 use mathlib.Core.List.{List, []}

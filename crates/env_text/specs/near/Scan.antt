@@ -12,7 +12,7 @@ pub record IsWidth (s : List ℕ) (i w : ℕ) : Type 0 where
   pub over : w ≡ 0 → textOf (drop i s) ≡ cut [] (drop i s)
   pub more : 0 < w → textOf (drop i s) ≡ withByte (getD s (i + w - 1) 0) (textOf (drop (i + w) s))
 
--- the text from a place on: its length without ESCs, and the place behind it
+-- the text from a place on: its length without ESCs, and the place after it
 pub record IsExtent (s : List ℕ) (from : ℕ) (e : Extent) : Type 0 where
   pub count : e .length ≡ length (textOf (drop from s) .bytes)
   pub rest : drop (e .end) s ≡ textOf (drop from s) .behind

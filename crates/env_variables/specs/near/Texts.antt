@@ -16,7 +16,7 @@ unfoldable pub givesValue : List ℕ → Bool
 givesValue [] = false
 givesValue (b ∷ bs) = eqb b VALUE
 
--- the text behind the first byte of the rest: broken, or whole and put at a place of the buffer
+-- the text after the first byte of the rest: broken, or whole and put at a place of the buffer
 pub record IsTaken (rest bytes₀ : List ℕ) (at : ℕ) (r : Text) (bytes : List ℕ) : Type 0 where
   pub bad : r .whole ≡ false → rowOf (drop 1 rest) .front ≡ broken
   pub good : r .whole ≡ true → rowOf (drop 1 rest) ≡ row (text (textOf (drop 1 rest) .bytes)) (rowOf (drop (r .end) rest) .fields)

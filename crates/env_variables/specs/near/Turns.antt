@@ -20,7 +20,7 @@ use Rattle.octets.specs.Lent.{overwrite}
 abbrev pub fromName : ℕ → ℕ → Row → Found
 fromName number k r = expectNoText (r .front) (names number k (r .fields))
 
--- what the value reader finds: a value and the variables behind it, or a fault
+-- what the value reader finds: a value and the variables after it, or a fault
 pub data Valued : Type 0 where
   valued : List ℕ → List Variable → Valued
   badValue : ℕ → Valued
@@ -40,7 +40,7 @@ unfoldable pub completed : ℕ → List ℕ → Valued → Found
 completed kind name (valued v vs) = variables (variable kind name v ∷ vs)
 completed kind name (badValue n) = fault n
 
--- the value behind a name, none where no VALUE stands: broken, or whole and put at a place of the buffer, with what the name reader finds behind it
+-- the value after a name, none where no VALUE stands: broken, or whole and put at a place of the buffer, with what the name reader finds after it
 pub record IsValue (rest bytes₀ : List ℕ) (at : ℕ) (r : Text) (bytes : List ℕ) : Type 0 where
   pub value : List ℕ
   pub bad : r .whole ≡ false → (k : ℕ) → fromValue k (rowOf rest .fields) ≡ badValue badEscape
@@ -50,14 +50,14 @@ pub record IsValue (rest bytes₀ : List ℕ) (at : ℕ) (r : Text) (bytes : Lis
   pub forward : r .length ≤ r .end
   pub within : r .end ≤ length rest
 
--- behind `at` bytes of the buffer there is room for all that is left of a payload, and the list has room for 64 records, k of which are known
+-- after `at` bytes of the buffer there is room for all that is left of a payload, and the list has room for 64 records, k of which are known
 pub record HasRoom (rest : List ℕ) (at k : ℕ) (b : Buffers) : Type 0 where
   pub texts : at + length rest ≤ length (b .bytes)
   pub short : length (b .bytes) ≤ payloadLimit
   pub records : listLimit ≤ length (b .numbers)
   pub count : k ≤ variableLimit
 
--- the same behind a name of n bytes that is there already
+-- the same after a name of n bytes that is there already
 unfoldable pub ValueRead : Valued → ℕ → ℕ → ℕ → ℕ → Buffers → Answered → Buffers → Type 0
 ValueRead (badValue m) kind at n k before r after = r ≡ Fault m
 ValueRead (valued v vs) kind at n k before r after =

@@ -1,4 +1,4 @@
--- `env_writer::put_variable` meets its contract: kind, name, VALUE and value, one behind the other. Assumes nothing.
+-- `env_writer::put_variable` meets its contract: kind, name, VALUE and value, one after the other. Assumes nothing.
 use mathlib.Core.Path.{_≡_, ap, _∙_}
 use mathlib.Core.List.{List}
 use Prim.Native.Nat.{ℕ, _+_, _≤_}
@@ -54,7 +54,7 @@ add-put-marked c = search needs
 put-marked-requires : tie.Need-put-marked-requires
 put-marked-requires c κs = search needs
 
--- the name stands behind the kind
+-- the name stands after the kind
 named : (c : tie.After-put-marked)
     → let s = c .before .before .before .before .before .before .before .before in
     (c .put-marked .result ≡ s .args .at + 1 + length (name s))

@@ -21,7 +21,7 @@ returns c =
     let a = c .before .before .before .before .before .args in
     not-first (a .first) (a .bytes .now) (a .numbers .now) (a .out .now) (sym (c .before .is-first .ensures) ∙ not-true (c .before .is-first .result) (c .if1 .taken))
 
--- the arguments, behind the first test, the second and so on
+-- the arguments, after the first test, the second and so on
 abbrev start : tie.Else1 → tie.Start
 start c = c .before .before .before .before .before
 

@@ -16,7 +16,7 @@ use Rattle.names.proofs.Text.{raised-at}
 use Rattle.names.proofs.are_name_bytes.Statement.{statement}
 use Rattle.names.proofs.are_name_bytes.Tie as tie
 
--- the byte at `i`, and those behind it
+-- the byte at `i`, and those after it
 next : (text : List ℕ) (i : ℕ) → i < length text
     → every isNameByte (drop i (raised text)) ≡ (isNameByte (raisedByte (getD text i 0)) && every isNameByte (drop (i + 1) (raised text)))
 unfolding every

@@ -15,7 +15,7 @@ use Rattle.names.specs.Name.{isNameByte}
 use Rattle.names_order.proofs.are_name_bytes.Statement.{statement}
 use Rattle.names_order.proofs.are_name_bytes.Tie as tie
 
--- the byte at `i`, and those behind it
+-- the byte at `i`, and those after it
 next : (text : List ℕ) (i : ℕ) → i < length text
     → every isNameByte (drop i text) ≡ (isNameByte (getD text i 0) && every isNameByte (drop (i + 1) text))
 unfolding every

@@ -1,4 +1,4 @@
--- `octets_marked::put_bytes` meets its contract. The loop's invariant: what is still to be put, behind what was put, is what was to be put. The measure is how
+-- `octets_marked::put_bytes` meets its contract. The loop's invariant: what is still to be put, after what was put, is what was to be put. The measure is how
 -- many bytes are left. Assumes nothing.
 use mathlib.Core.Path.{_≡_, _∙_}
 use mathlib.Core.List.{[], _∷_}

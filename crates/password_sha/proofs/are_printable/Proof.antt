@@ -15,7 +15,7 @@ use borrow.Author.Needs.{needs}
 use Rattle.password_sha.proofs.are_printable.Statement.{statement}
 use Rattle.password_sha.proofs.are_printable.Tie as tie
 
--- the byte at i, and those behind it
+-- the byte at i, and those after it
 next : (t : List ℕ) (i : ℕ) → i < length t
     → every isPrintable (drop i t) ≡ (isPrintable (getD t i 0) && every isPrintable (drop (i + 1) t))
 unfolding every

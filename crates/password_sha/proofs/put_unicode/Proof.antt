@@ -1,4 +1,4 @@
--- `password_sha::put_unicode` meets its contract: the characters from i on, put behind those that are there, give all of them. The measure is
+-- `password_sha::put_unicode` meets its contract: the characters from i on, put after those that are there, give all of them. The measure is
 -- `length text - i`. Assumes nothing.
 use mathlib.Core.Path.{_≡_, refl, sym, _∙_}
 use mathlib.Core.List.{[]}

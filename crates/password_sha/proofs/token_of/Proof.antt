@@ -1,4 +1,4 @@
--- `password_sha::token_of` meets its contract: the two pieces, one behind the other, are hashed. Assumes nothing.
+-- `password_sha::token_of` meets its contract: the two pieces, one after the other, are hashed. Assumes nothing.
 use mathlib.Core.Path.{ap, _∙_}
 use Prim.Native.Nat.{_+_, _-_, _*_}
 use lib.ListN.{length, take, replicate}

@@ -1,4 +1,4 @@
--- `profile_maker::put_record` meets its contract: four pieces one behind the other. Assumes nothing.
+-- `profile_maker::put_record` meets its contract: four pieces one after the other. Assumes nothing.
 use mathlib.Core.Path.{ap, _∙_}
 use Prim.Native.Nat.{_≤_}
 use native.Mathlib.Omega.{arith}

@@ -1,4 +1,4 @@
--- What a record says of DES, and the bytes of a record laid out one behind the other.
+-- What a record says of DES, and the bytes of a record laid out one after the other.
 use mathlib.Core.Path.{_≡_}
 use mathlib.Core.Bool.{Bool, _&&_}
 use mathlib.Core.List.{List, _∷_, _++_}

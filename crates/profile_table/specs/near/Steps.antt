@@ -16,11 +16,11 @@ use Rattle.profile_table.specs.declared.Step.the-variants.{Next, Stop}
 use Rattle.profile_table.specs.declared.Scan.{Scan}
 use Rattle.profile_table.specs.Answer.{entry, foundFrom}
 
--- what the records of bytes say, behind so many profiles and a name
+-- what the records of bytes say, after so many profiles and a name
 abbrev pub recordsBehind : ℕ → List ℕ → List ℕ → TableReading
 recordsBehind count before bs = profilesFrom version1 (profileCount - count) before bs
 
--- a record with a name of n bytes stands at the front, and others behind it
+-- a record with a name of n bytes stands at the front, and others after it
 pub record IsNext (count : ℕ) (before bs : List ℕ) (n : ℕ) : Type 0 where
   pub few : count < profileCount
   pub is : isRecord version1 bs ≡ true

@@ -1,4 +1,4 @@
--- `show_event::say_event` meets its contract: what `look` answers tells the place behind. Assumes nothing.
+-- `show_event::say_event` meets its contract: what `look` answers tells the place after. Assumes nothing.
 use mathlib.Core.Path.{ap, _∙_}
 use borrow.Author.Needs.{needs}
 use Rattle.show_event.specs.Sent.{nextPlace}

@@ -1,4 +1,4 @@
--- The fields of a record as they are put, each behind those that are there.
+-- The fields of a record as they are put, each after those that are there.
 use mathlib.Core.Path.{_≡_}
 use mathlib.Core.Bool.{true}
 use mathlib.Core.List.{List, [], _∷_, _++_}

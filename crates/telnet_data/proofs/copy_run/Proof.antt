@@ -26,7 +26,7 @@ plains : (c : tie.After-slice-known2 Inv-loop μ-loop)
     (c .before .before .before .before .before .loop .k + c .before .before .copy-plain .result) (c .before .before .copy-plain .last .1 .1 .0)
 plains c = put-plain (c .before .before .before .before .before .loop .inv) (omega arith) (c .before .before .copy-plain .ensures)
 
--- and the doubled 255 behind them
+-- and the doubled 255 after them
 loop-again : tie.Need-loop-again Inv-loop μ-loop
 loop-again c = put-doubled (plains (c .before .before .before)) (omega arith) (sym (c .before .is-doubled .ensures) ∙ not-false _ (c .if2 .left))
 

@@ -22,7 +22,7 @@ found : (c : tie.After-find-byte Inv-loop μ-loop)
     (c .before .before .loop .n + (c .find-byte .result - c .before .before .loop .i))
 found c = pass-plain (c .before .before .loop .inv) (c .find-byte .result) (c .find-byte .ensures)
 
--- and the doubled 255 behind them
+-- and the doubled 255 after them
 loop-again : tie.Need-loop-again Inv-loop μ-loop
 loop-again c = pass-doubled (found (c .before .before)) (sym (c .before .is-doubled .ensures) ∙ not-false _ (c .if1 .left))
 

@@ -5,7 +5,7 @@ use mathlib.Core.List.{List}
 use lib.ListN.{length}
 use Rattle.octets.specs.Lent.{overwrite}
 
--- a text of so many bytes at most, put at a place of a buffer: r is the place behind it, and the buffer is left so
+-- a text of so many bytes at most, put at a place of a buffer: r is the place after it, and the buffer is left so
 pub record Put (words : List ℕ) (most : ℕ) (buffer : List ℕ) (at r : ℕ) (left : List ℕ) : Type 0 where
   pub behind : r ≡ at + length words
   pub bytes : left ≡ overwrite buffer at words

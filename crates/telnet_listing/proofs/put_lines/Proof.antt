@@ -1,4 +1,4 @@
--- `telnet_listing::put_lines` meets its contract. The loop's invariant: to put the lines from here on behind those that are there gives the whole.
+-- `telnet_listing::put_lines` meets its contract. The loop's invariant: to put the lines from here on after those that are there gives the whole.
 -- The measure is how many bytes are left. Assumes nothing.
 use mathlib.Core.Path.{_≡_, refl, ap, ap₂, _∙_}
 use Prim.Native.Nat.{_+_, _-_, _≤_}

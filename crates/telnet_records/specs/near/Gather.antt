@@ -33,12 +33,12 @@ endsRecord (Command c) = eqb c eor
 endsRecord (Negotiation v o) = false
 endsRecord (Subnegotiation o) = false
 
--- a record that stands from place i on, behind n bytes of data
+-- a record that stands from place i on, after n bytes of data
 unfoldable pub sized : ℕ → ℕ → Gathered → Record
 sized n i (complete d w) = Complete (n + length d) (i + w)
 sized n i (noRecord how) = answerNoRecord how
 
--- the record from place i on, behind n bytes of data
+-- the record from place i on, after n bytes of data
 unfoldable pub sizedAt : List ℕ → ℕ → ℕ → Record
 sizedAt s n i = sized n i (recordOf (drop i s))
 
@@ -56,13 +56,13 @@ Advanced s i n (Done r) = sizedAt s n i ≡ r
 unfoldable pub dataAt : List ℕ → ℕ → List ℕ
 dataAt s i = recordData (recordOf (drop i s))
 
--- data of the record are left at place i, and there is room for them behind `to` bytes
+-- data of the record are left at place i, and there is room for them after `to` bytes
 pub record CanCopy (s : List ℕ) (i : ℕ) (out : List ℕ) (to : ℕ) : Type 0 where
   pub within : i ≤ length s
   pub some : 0 < length (dataAt s i)
   pub room : to + length (dataAt s i) ≤ length out
 
--- one event's data copied: with what is left behind it, the buffer comes to the same
+-- one event's data copied: with what is left after it, the buffer comes to the same
 pub record Copied (s : List ℕ) (i : ℕ) (out : List ℕ) (to : ℕ) (out′ : List ℕ) (r : Extent) : Type 0 where
   pub ahead : i < r .end
   pub within : r .end ≤ length s
@@ -75,7 +75,7 @@ pub record CanPass (s : List ℕ) (i : ℕ) : Type 0 where
   pub some : 0 < length (dataAt s i)
   pub none : undoubled (drop i s) ≡ []
 
--- that event passed: behind it the same data are left
+-- that event passed: after it the same data are left
 pub record Passed (s : List ℕ) (i j : ℕ) : Type 0 where
   pub ahead : i < j
   pub within : j ≤ length s

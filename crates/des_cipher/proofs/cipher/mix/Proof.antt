@@ -1,4 +1,4 @@
--- `des_cipher::cipher::mix` meets its contract: the loop puts the four bits of one box after the other behind those before. The measure is
+-- `des_cipher::cipher::mix` meets its contract: the loop puts the four bits of each box in its turn after those before. The measure is
 -- `8 - j`. Assumes nothing.
 use mathlib.Core.Path.{_≡_, sym, _∙_}
 use mathlib.Core.List.{[]}
