@@ -34,7 +34,7 @@ static size_t put_event(uint8_t *line, uint8_t what, uint8_t code, uint8_t optio
 	return n;
 }
 
-/* A stream of events, or of anything; mostly shorter than so many bytes. */
+/* A stream of events, or of anything; mostly shorter than limit. */
 static size_t fill_stream(uint8_t *line, size_t limit)
 {
 	uint8_t payload[1100];

@@ -1,4 +1,5 @@
--- Events and records of the line, and one side of an option: they refuse by their own numbers, and leave all as it was. Assumes nothing.
+-- Events and records of the line, and one side of an option: they refuse by their own numbers, and leave all as it was.
+-- Assumes nothing.
 use mathlib.Core.Path.{_≡_, refl, ap, subst}
 use mathlib.Core.Bool.{Bool, true, false, not, _||_}
 use mathlib.Core.List.{List, [], _∷_, _++_}

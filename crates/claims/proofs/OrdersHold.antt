@@ -1,5 +1,6 @@
--- The order of refusals (`orders-hold`, the record `Orders.Orders`): environment writer, ledger, verdicts and token maker
--- go test by test; the rest is proved where its definitions are, or in `PlaceOrders` and `RoomOrders`. Assumes nothing.
+-- The order of refusals (`orders-hold`, the record `Orders.Orders`): environment writer, ledger, verdicts and token
+-- maker go test by test; the rest is proved where its definitions are, or in `PlaceOrders` and `RoomOrders`. Assumes
+-- nothing.
 use mathlib.Core.List.{List}
 use Prim.Native.Nat.{ℕ}
 use borrow.Author.Tests.{lt-ltb, le-ltb, eq-eqb, ne-eqb}

@@ -1,5 +1,5 @@
--- The ten sides of a session: a receipt refuses nothing, and a refused request leaves all ten as they were; with the command put on the line, every
--- refusal leaves sides, line and place as they were. Assumes nothing.
+-- The ten sides of a session: a receipt refuses nothing, and a refused request leaves all ten as they were; with the
+-- command put on the line, every refusal leaves sides, line and place as they were. Assumes nothing.
 use mathlib.Core.Path.{_≡_, refl, ap, subst, subst⁻¹, _∙_}
 use mathlib.Core.Bool.{Bool, true, false}
 use mathlib.Core.List.{List, [], _∷_}
@@ -48,7 +48,8 @@ kept-so : (numbers : List ℕ) {L : Type 0} (found left : L) (r : Refusal) → R
 kept-so numbers found left noRefusal t e = tt
 kept-so numbers found left (refusedBy n) t e = (t .0, e)
 
--- A step with its command on the line refuses by some numbers, if its number is one of them or none, and a refusal keeps all.
+-- A step with its command on the line refuses by some numbers, if its number is one of them or none, and a refusal
+-- keeps all.
 module _ (numbers : List ℕ) (by : ℕ → Refusal) (zero-by : by 0 ≡ noRefusal)
     (note-by : RefusesBy numbers (by offAnsweredByOn) → by offAnsweredByOn ≡ noRefusal) (s : Sides) (l : List ℕ) (at : ℕ) (u : Outcome Sent) where
   abbrev number : ℕ

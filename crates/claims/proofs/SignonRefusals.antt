@@ -1,5 +1,5 @@
--- Profile tables, the token maker, verdicts, response records, frames and the ledger: they refuse by their own numbers, and leave all as it was. Assumes
--- nothing.
+-- Profile tables, the token maker, verdicts, response records, frames and the ledger: they refuse by their own numbers,
+-- and leave all as it was. Assumes nothing.
 use mathlib.Core.Path.{_≡_, refl}
 use mathlib.Core.Bool.{Bool, true, false, not, _||_}
 use mathlib.Core.List.{List, [], _∷_, _++_}

@@ -1,4 +1,5 @@
--- The worked lines: short inputs by computation, payloads of 1,024 and 1,025 bytes by the length of what is written. Assumes nothing.
+-- The worked lines: short inputs by computation, payloads of 1,024 and 1,025 bytes by the length of what is written.
+-- Assumes nothing.
 use mathlib.Core.Path.{_≡_, refl, ap, subst⁻¹}
 use mathlib.Core.Bool.{Bool}
 use mathlib.Core.List.{[], _∷_, _++_, append-nil}

@@ -1,13 +1,15 @@
--- The owner's demand 1: "Every public entry point takes whatever bytes arrive, comes to an end, and refuses bad input by a number from our list. A refusal
--- leaves every lent buffer exactly as it was found." That it takes whatever arrives and ends is the checker's own word: no entry point has a `requires`, and
--- every function is proved to return. What is said here is the second half, entry point by entry point, over the definitions that their promises equal: by
--- which of the specification's numbers each may refuse, and that it then leaves every buffer, list and state as it was. The entry points of a gateway in C are
--- on a page of their own, `Demand1C.antt`.
+-- The owner's demand 1: "Every public entry point takes whatever bytes arrive, comes to an end, and refuses bad input
+-- by a number from our list. A refusal leaves every lent buffer exactly as it was found." That it takes whatever
+-- arrives and ends is the checker's own word: no entry point has a `requires`, and every function is proved to return.
+-- What is said here is the second half, entry point by entry point, over the definitions that their promises equal: by
+-- which of the specification's numbers each may refuse, and that it then leaves every buffer, list and state as it was.
+-- The entry points of a gateway in C are on a page of their own, `Demand1C.antt`.
 --
--- An entry point is a public function that can refuse. The others answer every input, and so have nothing to say here: tests answer true or false
--- (`option_rules::carried`, `names::is_name`, `password_check::gives_des` and their like); `env_records::find` and `value_of` and `profile_tokens` answer absent, an empty
--- part or zeros for what is not there; `octets::put`, `octets_marked::put_marked` and `octets::put_decimal`, helpers of the core, answer false, or the place that they
--- were given, where there is no room, and write nothing then.
+-- An entry point is a public function that can refuse. The others answer every input, and so have nothing to say here:
+-- tests answer true or false (`option_rules::carried`, `names::is_name`, `password_check::gives_des` and their like);
+-- `env_records::find` and `value_of` and `profile_tokens` answer absent, an empty part or zeros for what is not there;
+-- `octets::put`, `octets_marked::put_marked` and `octets::put_decimal`, helpers of the core, answer false, or the place
+-- that they were given, where there is no room, and write nothing then.
 use Prim.Native.Nat.{ℕ}
 use mathlib.Core.Bool.{Bool}
 use mathlib.Core.List.{List, [], _∷_, _++_}
@@ -98,8 +100,8 @@ pub record Demand1 : Type 0 where
   -- and where what is heard cannot be read
   pub lineHear : (s : Sides) (heard : List ℕ) (from : ℕ) (accept : Bool) (l : List ℕ) (at : ℕ)
       → RefusesOnLine (5 ∷ 4 ∷ line) byReceipt s l at (heardOn s heard from accept l at)
-  -- environment strings: `env_reader::read`, `env_list::read_records`, `env_writer::write`, and what `read` is made of: `env_variables::read_variables`,
-  -- `env_delivery::deliver`, `env_delivery::hand_over`
+  -- environment strings: `env_reader::read`, `env_list::read_records`, `env_writer::write`, and what `read` is made of:
+  -- `env_variables::read_variables`, `env_delivery::deliver`, `env_delivery::hand_over`
   pub readPayload : (p bytes numbers : List ℕ) → RefusesBoth (4 ∷ payload) bytes numbers (readInto p bytes numbers)
   pub readRecords : (p bytes : List ℕ) (list : List VariableRecord)
       → Refuses (4 ∷ payload) {L = List ℕ × List VariableRecord} (bytes, list) (readRecords p bytes list .answer .lent, readRecords p bytes list .records) (ofPayload (readRecords p bytes list .answer .answer))

@@ -1,6 +1,7 @@
--- Demand 1 at the boundary to C: the calls `tv_..` are the entry points of a gateway in C, over the definitions that their promises equal. Each refuses by numbers
--- of its own, and then leaves every buffer and list as it was, and hands back sides, ledger and place by the numbers that were given. `tv_sides_fresh`,
--- `tv_env_value` and `tv_ledger_fresh` refuse nothing.
+-- Demand 1 at the boundary to C: the calls `tv_..` are the entry points of a gateway in C, over the definitions that
+-- their promises equal. Each refuses by numbers of its own, and then leaves every buffer and list as it was, and hands
+-- back sides, ledger and place by the numbers that were given. `tv_sides_fresh`, `tv_env_value` and `tv_ledger_fresh`
+-- refuse nothing.
 use Prim.Native.Nat.{ℕ, _<_}
 use mathlib.Core.Path.{_≡_}
 use mathlib.Core.Bool.{Bool}

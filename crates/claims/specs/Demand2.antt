@@ -1,8 +1,10 @@
--- The owner's demand 2: "Framing, options, environment strings, password substitutes, sign-on verdicts and printer frames are those of the RFCs and federal
--- standards we name, as our specification reads them, reading and writing alike. Sign-on is granted exactly when the named profile is enabled and either its
--- token, of a kind it allows, gives the offered substitute under this session's two seeds, the client's not zero, or, with that seed empty or zero, a clear
--- password gives its stored token." Each function's own promise says that it answers and leaves what the papers say; here is what holds above single functions.
--- The order of refusals is `Orders.antt`; the table of the option rules is `option_rules/specs/Table.antt`, and two ends under it are `Demand3.antt`.
+-- The owner's demand 2: "Framing, options, environment strings, password substitutes, sign-on verdicts and printer
+-- frames are those of the RFCs and federal standards we name, as our specification reads them, reading and writing
+-- alike. Sign-on is granted exactly when the named profile is enabled and either its token, of a kind it allows, gives
+-- the offered substitute under this session's two seeds, the client's not zero, or, with that seed empty or zero, a
+-- clear password gives its stored token." Each function's own promise says that it answers and leaves what the papers
+-- say; here is what holds above single functions. The order of refusals is `Orders.antt`; the table of the option rules
+-- is `option_rules/specs/Table.antt`, and two ends under it are `Demand3.antt`.
 use Rattle.telnet.specs.Theorems as Telnet
 use Rattle.option_sides.specs.Verbs.{HeardAsSaid}
 use Rattle.option_sides.specs.Session.{SetsOne}
@@ -30,7 +32,8 @@ pub record Demand2 : Type 0 where
   pub bytesWrittenBack : Telnet.WritesBack
   -- And the writer refuses nothing of what was read.
   pub readIsWritable : Telnet.ReadIsWritable
-  -- "One call reads one event at a place and gives the next place": the reading of a whole stream is one such call after another.
+  -- "One call reads one event at a place and gives the next place": the reading of a whole stream is one such call
+  -- after another.
   pub oneEventAfterAnother : Telnet.Unrolled
   -- RECORDS
   -- "A record is all data between two end-of-record events; commands between don't break it."
@@ -38,25 +41,29 @@ pub record Demand2 : Type 0 where
   -- Data written as a run and an end-of-record is read back as that record.
   pub recordReadsBack : Telnet.RecordReadsBack
   -- OPTIONS, on the line
-  -- "On means WILL or DO and off WONT or DONT, as the side has it": what one end says of a side, the other hears of the same side,
+  -- "On means WILL or DO and off WONT or DONT, as the side has it": what one end says of a side, the other hears of the
+  -- same side,
   pub heardAsSaid : HeardAsSaid
   -- and a step of one side leaves the nine others as they were.
   pub setsOne : SetsOne
-  -- "What a step sends goes last on the line from its end": a command that a request put on a line is heard there, and steps the facing side by the table.
+  -- "What a step sends goes last on the line from its end": a command that a request put on a line is heard there, and
+  -- steps the facing side by the table.
   pub requestIsHeard : RequestIsHeard
   -- "Every call's successor, number and command are the table's", but for 5 and 4, which leave everything.
   pub requestTells : RequestTells
   pub receiptTells : ReceiptTells
   pub hearTells : HearTells
   -- ENVIRONMENT STRINGS, both ways
-  -- "The writer escapes 0 to 3 and always writes VALUE; reading it back gives the same first byte and the same kinds, names and values in order."
+  -- "The writer escapes 0 to 3 and always writes VALUE; reading it back gives the same first byte and the same kinds,
+  -- names and values in order."
   pub variablesReadBack : Env.ReadsBack
   -- What was read, written again, reads the same.
   pub variablesReadTheSame : Env.ReadsTheSame
-  -- "Names and values without their ESCs go, back to back, into a lent buffer; their places are set in a lent list of variable records": the two
-  -- hold the variables again.
+  -- "Names and values without their ESCs go, back to back, into a lent buffer; their places are set in a lent list of
+  -- variable records": the two hold the variables again.
   pub variablesHeldAgain : Env.HoldsAgain
-  -- What the reader answers and leaves is what the payload says, and what the writer answers and leaves reads as what it was given.
+  -- What the reader answers and leaves is what the payload says, and what the writer answers and leaves reads as what
+  -- it was given.
   pub readIsHeld : ReadIsHeld
   pub wroteReadsBack : WroteReadsBack
   -- "At most 64", and 3 for a "payload over 1,024 bytes": room for 1,024 bytes and 64 records is always enough.
@@ -64,8 +71,8 @@ pub record Demand2 : Type 0 where
   -- The variables are held again also where the records are a list of structs.
   pub listsTheVariables : ListsTheVariables
   -- PROFILE TABLES, both ways
-  -- "one version byte 1, then records": a table of profiles that are well-formed, strictly ascending and at most 500 reads as those profiles, and the
-  -- records of any shape do;
+  -- "one version byte 1, then records": a table of profiles that are well-formed, strictly ascending and at most 500
+  -- reads as those profiles, and the records of any shape do;
   pub recordsReadBack : RecordsReadBack
   pub tablesReadBack : TablesReadBack
   -- and what is read without refusal, written, gives the bytes.
@@ -78,8 +85,9 @@ pub record Demand2 : Type 0 where
   pub lookupIsMembership : LookupIsMembership
   -- what the look-up answers is the profile of that name, by the place where its record stands.
   pub foundIsNamed : FoundIsNamed
-  -- "The token maker takes a name, a password and two yes-or-no marks, enabled and DES allowed, and writes one record": the record of a well-formed
-  -- profile; and a table of made records in ascending order reads as the profiles that were made.
+  -- "The token maker takes a name, a password and two yes-or-no marks, enabled and DES allowed, and writes one record":
+  -- the record of a well-formed profile; and a table of made records in ascending order reads as the profiles that were
+  -- made.
   pub madeRecordsAreGood : MadeRecordsAreGood
   pub madeTablesRead : MadeTablesRead
   -- TOKENS AND SUBSTITUTES, against their sections
@@ -89,38 +97,42 @@ pub record Demand2 : Type 0 where
   -- "SHA-1: section 5.2 gives token and substitute".
   pub shaTokenOfTheSection : ShaTokenOfTheSection
   pub shaSubstituteOfTheSection : ShaSubstituteOfTheSection
-  -- "its token .. gives the offered substitute under this session's two seeds .., or .. a clear password gives its stored token": what the password of a
-  -- name gives passes, under all seeds, and no other substitute does.
+  -- "its token .. gives the offered substitute under this session's two seeds .., or .. a clear password gives its
+  -- stored token": what the password of a name gives passes, under all seeds, and no other substitute does.
   pub ownPasswordGives : OwnPasswordGives
   -- "8-byte DES token, 20-byte SHA-1 token": nothing passes with a token, a seed or a substitute of another length.
   pub onlyItsLengths : OnlyItsLengths
   -- SIGN-ON: GRANT and its neighbours
-  -- "Sign-on is granted exactly when the named profile is enabled and either its token, of a kind it allows, gives the offered substitute under this session's
-  -- two seeds, the client's not zero, or, with that seed empty or zero, a clear password gives its stored token." The sentence of GRANT is `Granted`; each
-  -- other verdict is given exactly where its own sentence holds.
+  -- "Sign-on is granted exactly when the named profile is enabled and either its token, of a kind it allows, gives the
+  -- offered substitute under this session's two seeds, the client's not zero, or, with that seed empty or zero, a clear
+  -- password gives its stored token." The sentence of GRANT is `Granted`; each other verdict is given exactly where its
+  -- own sentence holds.
   pub verdictIsItsSentence : VerdictIsItsSentence
   -- "A refusal returns its number": no verdict is given where something is refused.
   pub noVerdictIfRefused : NoVerdictIfRefused
-  -- "0002, if VAR USER is .. not in the table; 0003, not enabled": such a profile is never granted, whatever is offered.
+  -- "0002, if VAR USER is .. not in the table; 0003, not enabled": such a profile is never granted, whatever is
+  -- offered.
   pub onlyEnabledGranted : OnlyEnabledGranted
   -- Made, stored, offered, granted: token maker, table, substitute and verdict together.
   pub madeSignsOn : MadeSignsOn
   -- RESPONSE RECORDS
-  -- "8902 for a device fault, which outranks sign-on; else the verdict's digits; else I902": the code in a response record says fault and verdict, the record
-  -- has the figures' 73 bytes, and on the line it reads back as one record.
+  -- "8902 for a device fault, which outranks sign-on; else the verdict's digits; else I902": the code in a response
+  -- record says fault and verdict, the record has the figures' 73 bytes, and on the line it reads back as one record.
   pub responsesAreRight : ResponsesAreRight
-  -- "Response records follow section 10's figures for success and error": the two that the figures print, byte for byte.
+  -- "Response records follow section 10's figures for success and error": the two that the figures print, byte for
+  -- byte.
   pub figures : Figures
   -- PRINTER FRAMES
   -- 40 to 45, each exactly where its sentence in the table of refusals holds and none before it does.
   pub frameIsItsSentence : FrameIsItsSentence
-  -- "The device's completion writes the fixed ten bytes 00 0A 12 A0 01 02 04 00 00 01": on the line they read back as one record,
+  -- "The device's completion writes the fixed ten bytes 00 0A 12 A0 01 02 04 00 00 01": on the line they read back as
+  -- one record,
   pub printCompleteReadsBack : PrintCompleteReadsBack
   -- and as a frame: the client's, a print, with no flag set and nothing after the header.
   pub printCompleteIsAFrame : PrintCompleteIsAFrame
   -- "LLLL not its length" is 40: so is every frame that is too long to say its length.
   pub tooLongToSay : TooLongToSay
   -- THE LEDGER
-  -- "Over any calls from fresh, accepted prints equal completions plus records cleared plus the one held, each counted from the history of calls": and a
-  -- completion is written for a held record exactly once, and never otherwise.
+  -- "Over any calls from fresh, accepted prints equal completions plus records cleared plus the one held, each counted
+  -- from the history of calls": and a completion is written for a held record exactly once, and never otherwise.
   pub printsAreHeardBack : PrintsAreHeardBack

@@ -1,5 +1,6 @@
--- Made, stored, offered, granted: who signs on with the name and the password that the token maker was given is granted, by SHA-1, and by DES where the mark for
--- DES was asked for and the password has a DES token (demand 2, end to end: token maker, profile table, substitute and verdict).
+-- Made, stored, offered, granted: who signs on with the name and the password that the token maker was given is
+-- granted, by SHA-1, and by DES where the mark for DES was asked for and the password has a DES token (demand 2, end to
+-- end: token maker, profile table, substitute and verdict).
 use mathlib.Core.Path.{_≡_}
 use mathlib.Core.Bool.{Bool, true}
 use mathlib.Core.List.{List}
@@ -43,7 +44,8 @@ pub record Stored (written table : List ℕ) : Type 0 where
   pub occurs : Occurs profile ps
   pub isWritten : recordBytes profile ≡ written
 
--- what a client offers for a name and a password, under the seeds of server and client: the substitute of the token by SHA-1,
+-- what a client offers for a name and a password, under the seeds of server and client: the substitute of the token by
+-- SHA-1,
 pub record BySha (name password : List ℕ) (server client : ℕ) (offered : List ℕ) : Type 0 where
   pub substitute : offered ≡ Sha.shaSubstitute (Sha.shaToken name password .bytes) name server client .bytes
 

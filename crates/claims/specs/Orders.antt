@@ -1,5 +1,6 @@
--- The order of refusals (specification, "Refusal numbers", the paragraph "Order"): for each of its sentences, that the number which comes first is told,
--- whatever else is there. `Demand1.antt` says by which numbers each entry point may refuse.
+-- The order of refusals (specification, "Refusal numbers", the paragraph "Order"): for each of its sentences, that the
+-- number which comes first is told, whatever else is there. `Demand1.antt` says by which numbers each entry point may
+-- refuse.
 use mathlib.Core.Path.{_≡_}
 use mathlib.Core.Bool.{Bool, true, false}
 use mathlib.Core.List.{List, [], _∷_}
@@ -69,7 +70,8 @@ pub record FiveFirst : Type 0 where
   pub hear : (s : Sides) (heard : List ℕ) (from : ℕ) (accept : Bool) (line : List ℕ) (at : ℕ)
       → (heardOn s heard from accept line at .answer .number ≡ 5) ↔ ((length line < at) ⊎ (length heard < from))
 
--- What a call refuses by, given what is lent to it: another number than 4 is told whatever the room, and where 4 is told, nothing is refused with room enough.
+-- What a call refuses by, given what is lent to it: another number than 4 is told whatever the room, and where 4 is
+-- told, nothing is refused with room enough.
 pub record Last {L : Type 0} (roomy : ℕ → L → Type 0) (call : L → Refusal) : Type 0 where
   pub others : (l m : L) (n : ℕ) → (n ≡ 4 → ⊥) → call l ≡ refusedBy n → call m ≡ refusedBy n
   pub enough : (l : L) → call l ≡ refusedBy 4 → (room : ℕ) × ((m : L) → roomy room m → call m ≡ noRefusal)
@@ -99,7 +101,8 @@ pub record FourLast : Type 0 where
 abbrev pub WriteRefuses : (first : ℕ) (bytes numbers out : List ℕ) (number : ℕ) → Type 0
 WriteRefuses first bytes numbers out number = writeInto first bytes numbers out .answer ≡ PayloadNotWritten number
 
--- "its writer gives 20 (asked for a first byte other than 0 or 2), 27, 21, 24, 25, 3, each over the whole list before the next."
+-- "its writer gives 20 (asked for a first byte other than 0 or 2), 27, 21, 24, 25, 3, each over the whole list before
+-- the next."
 pub record WriterOrder (first : ℕ) (bytes numbers out : List ℕ) : Type 0 where
   pub twenty : (first ≡ 0 → ⊥) → (first ≡ 2 → ⊥) → WriteRefuses first bytes numbers out 20
   pub badRecord : T (isFirst first) → placed bytes numbers ≡ false → WriteRefuses first bytes numbers out 27

@@ -13,7 +13,8 @@ pub record Others : Type 0 where
   pub sameIsEqual : SameIsEqual
   -- FIPS 180-4, 5.1: the padding has the smallest number of zero bits that fills a block.
   pub fewestZeroBits : FewestZeroBits
-  -- A variable is of a kind and name where both are its own; one is among some where it occurs; 25 is a kind and name that are there twice.
+  -- A variable is of a kind and name where both are its own; one is among some where it occurs; 25 is a kind and name
+  -- that are there twice.
   pub isBoth : IsBoth
   pub amongIsOccurs : AmongIsOccurs
   pub repeatedIsTwice : RepeatedIsTwice

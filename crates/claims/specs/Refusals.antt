@@ -120,7 +120,8 @@ unfoldable pub oneOf : List ℕ → ℕ → Bool
 oneOf [] n = false
 oneOf (m ∷ ms) n = eqb n m || oneOf ms n
 
--- An entry point refuses by one of these numbers only, and then leaves what it was lent, or was given as a state, as it found it.
+-- An entry point refuses by one of these numbers only, and then leaves what it was lent, or was given as a state, as it
+-- found it.
 abbrev pub Refuses : List ℕ → {L : Type 0} → L → L → Refusal → Type 0
 Refuses numbers found left noRefusal = Unit {0}
 Refuses numbers found left (refusedBy n) = T (oneOf numbers n) × (left ≡ found)

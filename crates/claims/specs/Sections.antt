@@ -1,5 +1,6 @@
--- Tokens and substitutes against RFC 4777 ("section 5.1", "section 5.2 gives token and substitute"): what the four entry points answer for good names and
--- passwords, beside the sections' own names. The sections are rendered in `password_des/specs/Des.antt` and `password_sha/specs/Sha.antt`.
+-- Tokens and substitutes against RFC 4777 ("section 5.1", "section 5.2 gives token and substitute"): what the four
+-- entry points answer for good names and passwords, beside the sections' own names. The sections are rendered in
+-- `password_des/specs/Des.antt` and `password_sha/specs/Sha.antt`.
 use mathlib.Core.Path.{_≡_}
 use mathlib.Core.List.{List}
 use Prim.Native.Nat.{ℕ}

@@ -1,4 +1,5 @@
--- The worked lines of the specification that are marked P ("Worked lines of the line"), in its order, as one list of cases.
+-- The worked lines of the specification that are marked P ("Worked lines of the line"), in its order, as one list of
+-- cases.
 use mathlib.Core.Path.{_≡_}
 use mathlib.Core.Bool.{Bool, false, _&&_}
 use mathlib.Core.List.{List, [], _∷_, _++_}
@@ -44,7 +45,8 @@ pub data Case : Type 0 where
   -- a profile table
   isTable : List ℕ → Table.TableReading → Case
 
--- each end requests on, and then each receives: the first to request, and to receive, is one end or the other, and each accepts or declines
+-- each end requests on, and then each receives: the first to request, and to receive, is one end or the other, and each
+-- accepts or declines
 unfoldable pub twoRequests : End → End → Bool → Bool → List Call
 twoRequests x y a b = (x does request on) ∷ (other x does request on) ∷ (y does receive a) ∷ (other y does receive b) ∷ []
 

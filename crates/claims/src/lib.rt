@@ -1,5 +1,6 @@
-// What is proved above single functions, held: each function here does nothing and promises theorems, so that the check of this crate needs the
-// proof of every one. What is claimed is said in `specs/`; start with `Demand1.antt`, `Demand2.antt` and `Demand3.antt`.
+// What is proved above single functions, held: each function here does nothing and promises theorems, so that the check
+// of this crate needs the proof of every one. What is claimed is said in `specs/`; start with `Demand1.antt`,
+// `Demand2.antt` and `Demand3.antt`.
 //
 // Which public functions are entry points is said in `Demand1.antt`.
 ghost use Rattle.claims.specs.Demand3.{Demand3};

@@ -1,5 +1,6 @@
--- Linear functions of numbers: those that take a sum without carries (`bitXor`) to the sum of what its terms give. Two of them that agree
--- at each power of two below 2 ^ n, which one computed test shows, agree at each number below 2 ^ n. Assumes nothing.
+-- Linear functions of numbers: those that take a sum without carries (`bitXor`) to the sum of what its terms give. Two
+-- of them that agree at each power of two below 2 ^ n, which one computed test shows, agree at each number below 2 ^ n.
+-- Assumes nothing.
 use mathlib.Core.Path.{_≡_, refl, sym, ap, ap₂, _∙_}
 use mathlib.Core.Bool.{Bool}
 use mathlib.Core.List.{List, [], _∷_, map}

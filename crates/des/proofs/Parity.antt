@@ -1,4 +1,5 @@
--- The parity bits of a key are ignored (`Theorems.ParityIgnored`): permuted choice 1 has none of their places. Assumes nothing.
+-- The parity bits of a key are ignored (`Theorems.ParityIgnored`): permuted choice 1 has none of their places. Assumes
+-- nothing.
 use mathlib.Core.Path.{_≡_, refl, ap₂}
 use mathlib.Core.Bool.{Bool, true, _&&_}
 use mathlib.Core.List.{List, [], _∷_, map}

@@ -1,5 +1,5 @@
--- The final permutation undoes the initial one (`Theorems.FinalUndoesInitial`): one after the other they are linear, and leave each of the
--- 64 bits where it is. Assumes nothing.
+-- The final permutation undoes the initial one (`Theorems.FinalUndoesInitial`): one after the other they are linear,
+-- and leave each of the 64 bits where it is. Assumes nothing.
 use lib.Dec.{T}
 use Rattle.des.specs.Blocks.{continued, permuted}
 use Rattle.des.specs.Tables.{IP, IP⁻¹}

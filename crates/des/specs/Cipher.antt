@@ -1,4 +1,5 @@
--- Enciphering by FIPS 46, figures 1 and 2: the cipher function f, sixteen iterations between the two permutations, and a chain of blocks.
+-- Enciphering by FIPS 46, figures 1 and 2: the cipher function f, sixteen iterations between the two permutations, and
+-- a chain of blocks.
 use Prim.Native.Nat.{ℕ, _+_, _-_, _*_, _/_, _%_, _^_}
 use mathlib.Core.List.{List, [], _∷_, map}
 use lib.Bits.{bitXor}
@@ -36,7 +37,8 @@ output Ks input = permuted 64 IP⁻¹ (preoutput (permuted 64 IP input / 2 ^ 32)
 abbrev pub enciphered : ℕ → ℕ → ℕ
 enciphered key input = output (roundKeys key) input
 
--- cipher block chaining (FIPS 81): each block is added to what the block before it gave, and enciphered; with no block, what came before
+-- cipher block chaining (FIPS 81): each block is added to what the block before it gave, and enciphered; with no block,
+-- what came before
 unfoldable pub chained : List (List ℕ) → ℕ → List ℕ → ℕ
 chained Ks before [] = before
 chained Ks before (x ∷ xs) = chained Ks (output Ks (bitXor before x)) xs

@@ -1,4 +1,5 @@
--- The key schedule of FIPS 46, figure 3: from a key of 64 bits sixteen round keys of 48 bits, each as its eight groups of six bits.
+-- The key schedule of FIPS 46, figure 3: from a key of 64 bits sixteen round keys of 48 bits, each as its eight groups
+-- of six bits.
 use Prim.Native.Nat.{ℕ, _+_, _-_, _*_, _/_, _%_, _^_}
 use mathlib.Core.List.{List, [], _∷_}
 use Rattle.des.specs.Blocks.{permuted, groups}

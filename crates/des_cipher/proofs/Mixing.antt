@@ -1,4 +1,5 @@
--- The cipher function box by box: what the boxes still to come give, after what the others gave, is the whole. Assumes nothing.
+-- The cipher function box by box: what the boxes still to come give, after what the others gave, is the whole. Assumes
+-- nothing.
 use mathlib.Core.Path.{_≡_, sym, ap, ap₂, _∙_}
 use mathlib.Core.List.{List, map}
 use Prim.Native.Nat.{ℕ, suc, _+_, _-_, _*_, _%_, _^_, _<_}

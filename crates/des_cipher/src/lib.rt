@@ -1,4 +1,5 @@
-// Enciphering by DES, and cipher block chaining from zeros. What is right is said in the crate `des` (FIPS 46, figures 1 and 2).
+// Enciphering by DES, and cipher block chaining from zeros. What is right is said in the crate `des` (FIPS 46, figures
+// 1 and 2).
 mod boxes;
 mod chain;
 mod cipher;

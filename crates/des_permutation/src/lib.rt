@@ -1,4 +1,5 @@
-// The permutations of DES by tables of places: the initial one, its inverse, and permuted choice 1. What is right is said in the crate `des`.
+// The permutations of DES by tables of places: the initial one, its inverse, and permuted choice 1. What is right is
+// said in the crate `des`.
 use tables::CHOICE_1;
 use tables::FINAL;
 use tables::INITIAL;

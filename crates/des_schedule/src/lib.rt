@@ -1,5 +1,5 @@
-// Keys: the DES key of a password, and the round keys of a key. What is right is said in the crate `des` (FIPS 46, figure 3) and in
-// `specs/Password.antt`.
+// Keys: the DES key of a password, and the round keys of a key. What is right is said in the crate `des` (FIPS 46,
+// figure 3) and in `specs/Password.antt`.
 use des_permutation::permuted_choice_1;
 ghost use mathlib.Core.Path.{_≡_};
 ghost use Prim.Native.Nat.{_+_, _*_, _/_, _%_, _^_, _<_};

@@ -1,5 +1,6 @@
--- Reading undoes writing: the theorems `Theorems.ReadsBack` and `Theorems.ReadsTheSame`. What is written is a row of a name and a value by
--- turns, in which those variables are found; and what is read without refusal is such as the writer accepts. Assumes nothing.
+-- Reading undoes writing: the theorems `Theorems.ReadsBack` and `Theorems.ReadsTheSame`. What is written is a row of a
+-- name and a value by turns, in which those variables are found; and what is read without refusal is such as the writer
+-- accepts. Assumes nothing.
 use mathlib.Core.Path.{_≡_, refl, ap, subst, _∙_}
 use mathlib.Core.Bool.{false}
 use mathlib.Core.List.{List, [], _∷_, _++_, append-assoc, append-nil}

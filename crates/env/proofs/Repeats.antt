@@ -1,5 +1,5 @@
--- The tests of kinds, names and repeats are what they are named after: the theorems `Theorems.IsBoth`, `AmongIsOccurs` and `RepeatedIsTwice`.
--- Assumes nothing.
+-- The tests of kinds, names and repeats are what they are named after: the theorems `Theorems.IsBoth`, `AmongIsOccurs`
+-- and `RepeatedIsTwice`. Assumes nothing.
 use mathlib.Core.Path.{_≡_, refl}
 use mathlib.Core.Bool.{Bool, true, false, _||_}
 use mathlib.Core.List.{List, [], _∷_, _++_}

@@ -1,5 +1,5 @@
--- The laws of `rowOf` and `escaped`: what each byte in front makes of the row after it, and that a text with its ESCs stands there without
--- them. Assumes nothing.
+-- The laws of `rowOf` and `escaped`: what each byte in front makes of the row after it, and that a text with its ESCs
+-- stands there without them. Assumes nothing.
 use mathlib.Core.Path.{_≡_, refl, ap, _∙_}
 use mathlib.Core.List.{List, [], _∷_, _++_}
 use mathlib.Core.Logic.{⊎-elim}

@@ -1,4 +1,5 @@
--- The names and values of a payload take no more bytes than the payload (`reading-fitting`), field by field. Assumes nothing.
+-- The names and values of a payload take no more bytes than the payload (`reading-fitting`), field by field. Assumes
+-- nothing.
 use mathlib.Core.Path.{_≡_}
 use mathlib.Core.List.{List, [], _∷_, _++_}
 use mathlib.Core.Logic.{⊎-elim}

@@ -1,5 +1,5 @@
--- Inputs at the boundaries between refusals, each with its reading: where two faults stand in one payload, where a name ends at once, and at the
--- 64th and 65th variable. `proofs/Boundary.antt` proves them, as one theorem over the list.
+-- Inputs at the boundaries between refusals, each with its reading: where two faults stand in one payload, where a name
+-- ends at once, and at the 64th and 65th variable. `proofs/Boundary.antt` proves them, as one theorem over the list.
 use mathlib.Core.Path.{_≡_}
 use mathlib.Core.List.{List, [], _∷_, _++_}
 use Prim.Native.Nat.{ℕ, zero, suc, _+_}

@@ -1,5 +1,5 @@
--- The part of a payload after its first byte is a row of fields: a VAR, VALUE or USERVAR that no ESC stands before, and the text after it, a
--- name or a value without its ESCs.
+-- The part of a payload after its first byte is a row of fields: a VAR, VALUE or USERVAR that no ESC stands before, and
+-- the text after it, a name or a value without its ESCs.
 use Prim.Native.Nat.{ℕ, zero, suc}
 use mathlib.Core.List.{List, [], _∷_}
 use lib.Dec.{leb}

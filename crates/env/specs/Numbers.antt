@@ -1,5 +1,6 @@
--- Variables as the code holds them: names and values in a buffer, and a list of variable records (the specification's own term), each with the kind, place
--- and length of the name, place and length of the value. The list is one of numbers, so many for each record.
+-- Variables as the code holds them: names and values in a buffer, and a list of variable records (the specification's
+-- own term), each with the kind, place and length of the name, place and length of the value. The list is one of
+-- numbers, `recordWidth` for each record.
 use Prim.Native.Nat.{ℕ, _+_, _*_}
 use mathlib.Core.Bool.{Bool, true, _&&_}
 use mathlib.Core.List.{List, [], _∷_, _++_, map}

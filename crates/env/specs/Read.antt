@@ -1,5 +1,5 @@
--- Reading a payload: what it says, or the number by which it is refused (specification, "Environment strings" and "Refusal numbers" 3, 20 to
--- 25: 3 before 20, then the first fault met from left to right, 25 after all those).
+-- Reading a payload: what it says, or the number by which it is refused (specification, "Environment strings" and
+-- "Refusal numbers" 3, 20 to 25: 3 before 20, then the first fault met from left to right, 25 after all those).
 use Prim.Native.Nat.{ℕ, suc}
 use mathlib.Core.List.{List, [], _∷_}
 use lib.Dec.{ltb}
@@ -34,9 +34,10 @@ unfoldable pub named : (List ℕ → Found) → List ℕ → Found
 named found [] = fault noVariable
 named found (b ∷ bs) = found (b ∷ bs)
 
--- The variables of fields, where there are k already. A VALUE where a name should stand is refused by the number given: 21 before the first variable
--- and after one without a value, 23 after a value. Else a name stands there, and after it its value, nothing more, or the next name; from left
--- to right its 24, 22 and 21 come first, then its value's 22, then what is after it.
+-- The variables of fields, where there are k already. A VALUE where a name should stand is refused by the number given:
+-- 21 before the first variable and after one without a value, 23 after a value. Else a name stands there, and after it
+-- its value, nothing more, or the next name; from left to right its 24, 22 and 21 come first, then its value's 22, then
+-- what is after it.
 unfoldable pub names : ℕ → ℕ → List Field → Found
 names number k [] = variables []
 names number k (valueField t ∷ fs) = fault number

@@ -1,5 +1,6 @@
--- What is proved of the format: reading undoes writing, records hold what was recorded, the tests of kinds and names say what is meant by them, and the
--- first fault decides. The proofs are in `proofs/ReadingBack.antt`, `proofs/Holding.antt`, `proofs/Repeats.antt` and `proofs/Faults.antt`.
+-- What is proved of the format: reading undoes writing, records hold what was recorded, the tests of kinds and names
+-- say what is meant by them, and the first fault decides. The proofs are in `proofs/ReadingBack.antt`,
+-- `proofs/Holding.antt`, `proofs/Repeats.antt` and `proofs/Faults.antt`.
 use mathlib.Core.Path.{_≡_}
 use mathlib.Core.List.{List, [], _∷_, _++_}
 use mathlib.Core.Logic.{_↔_, _⊎_}
@@ -17,14 +18,15 @@ use Rattle.octets.specs.Lent.{overwrite}
 abbrev pub ReadsBack : Type 0
 ReadsBack = (first : ℕ) (vs : List Variable) → Accepted first vs → readingOf (payloadOf first vs) ≡ says first vs
 
--- What is read without refusal, written again, reads the same. Written again it has VALUE for each variable, and so may be too long: only then
--- does the writer object to it.
+-- What is read without refusal, written again, reads the same. Written again it has VALUE for each variable, and so may
+-- be too long: only then does the writer object to it.
 abbrev pub ReadsTheSame : Type 0
 ReadsTheSame =
     (payload : List ℕ) (first : ℕ) (vs : List Variable) → readingOf payload ≡ says first vs
     → length (payloadOf first vs) ≤ payloadLimit → Accepted first vs × (readingOf (payloadOf first vs) ≡ says first vs)
 
--- Variables that are packed into a buffer, and recorded, are held again, the same and in order; and where they have kinds, they are placed.
+-- Variables that are packed into a buffer, and recorded, are held again, the same and in order; and where they have
+-- kinds, they are placed.
 abbrev pub HoldsAgain : Type 0
 HoldsAgain =
     (bytes : List ℕ) (at : ℕ) (vs : List Variable) → at + length (packed vs) ≤ length bytes
@@ -64,8 +66,8 @@ RepeatedIsTwice = (vs : List Variable) → T (repeated vs) ↔ Twice vs
 abbrev pub Stays : (p : List ℕ) (n : ℕ) → Type 0
 Stays p n = (more : List ℕ) → length (p ++ more) ≤ 1024 → readingOf (p ++ more) ≡ notRead n
 
--- "Framing and environment faults: the first met from left to right". Only the end of a payload can be told by 20, 21 and 22 as well: an empty one, a VAR or
--- USERVAR with nothing after it, an ESC with nothing after it.
+-- "Framing and environment faults: the first met from left to right". Only the end of a payload can be told by 20, 21
+-- and 22 as well: an empty one, a VAR or USERVAR with nothing after it, an ESC with nothing after it.
 pub record FirstFaultDecides : Type 0 where
   pub notIsOrInfo : (b : ℕ) (p : List ℕ) → readingOf (b ∷ p) ≡ notRead 20 → Stays (b ∷ p) 20
   pub noVariable : (p : List ℕ) (b : ℕ) → (b ≡ VAR → ⊥) → (b ≡ USERVAR → ⊥) → readingOf (p ++ b ∷ []) ≡ notRead 21 → Stays (p ++ b ∷ []) 21
@@ -83,6 +85,7 @@ pub record GivesWay (p : List ℕ) : Type 0 where
 abbrev pub RepeatGivesWay : Type 0
 RepeatGivesWay = (p : List ℕ) → length p ≤ 1022 → readingOf p ≡ notRead 25 → GivesWay p
 
--- "An environment reader tests 3 before 20": 3 is told exactly where a payload has more than 1,024 bytes, whatever they are.
+-- "An environment reader tests 3 before 20": 3 is told exactly where a payload has more than 1,024 bytes, whatever they
+-- are.
 abbrev pub TooLongFirst : Type 0
 TooLongFirst = (p : List ℕ) → (readingOf p ≡ notRead 3) ↔ (1024 < length p)

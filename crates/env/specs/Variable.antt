@@ -41,7 +41,7 @@ variable k n v = record { kind = k; name = n; value = v }
 unfoldable pub isKind : ℕ → Bool
 isKind k = eqb k VAR || eqb k USERVAR
 
--- a payload has at most so many
+-- how many a payload has at most
 abbrev pub variableLimit : ℕ
 variableLimit = 64
 

@@ -1,4 +1,5 @@
--- Writing a payload (specification, "Environment strings": the writer escapes 0 to 3 and always writes VALUE; and the order of its refusals).
+-- Writing a payload (specification, "Environment strings": the writer escapes 0 to 3 and always writes VALUE; and the
+-- order of its refusals).
 use mathlib.Core.Path.{_≡_}
 use mathlib.Core.Bool.{Bool, true, false, _||_, _&&_}
 use mathlib.Core.List.{List, [], _∷_, _++_}

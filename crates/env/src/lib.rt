@@ -1,5 +1,6 @@
-// Environment variables. This crate has what is right, and no function: start with `specs/Variable.antt`, `specs/Fields.antt`, `specs/Read.antt` and
-// `specs/Write.antt`. The code is in `env_records`, `env_text`, `env_delivery`, `env_variables`, `env_reader`, `env_writer` and `env_list`.
+// Environment variables. This crate has what is right, and no function: start with `specs/Variable.antt`,
+// `specs/Fields.antt`, `specs/Read.antt` and `specs/Write.antt`. The code is in `env_records`, `env_text`,
+// `env_delivery`, `env_variables`, `env_reader`, `env_writer` and `env_list`.
 
 // A variable record: VAR or USERVAR, and where its name and its value stand in a buffer.
 pub struct VariableRecord {

@@ -1,5 +1,5 @@
--- The laws of what becomes of texts and records that were read: the ways of `handOver`, and that variables handed over are those variables
--- delivered. Assumes nothing.
+-- The laws of what becomes of texts and records that were read: the ways of `handOver`, and that variables handed over
+-- are those variables delivered. Assumes nothing.
 use mathlib.Core.Path.{_≡_, refl}
 use mathlib.Core.Bool.{Bool, true, false}
 use mathlib.Core.List.{List}

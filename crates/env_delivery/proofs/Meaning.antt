@@ -1,4 +1,5 @@
--- What the reader's answer means (`Theorems.ReadIsHeld`), and that room for the largest payload suffices (`Theorems.RoomSuffices`). Assumes nothing.
+-- What the reader's answer means (`Theorems.ReadIsHeld`), and that room for the largest payload suffices
+-- (`Theorems.RoomSuffices`). Assumes nothing.
 use mathlib.Core.Path.{_≡_, ap, subst}
 use mathlib.Core.Bool.{Bool, true, false}
 use mathlib.Core.List.{List}

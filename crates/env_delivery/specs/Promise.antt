@@ -1,5 +1,5 @@
--- What the reader answers, and what it leaves in the buffer and the list that it is lent: for every input and room, with the refusals in the
--- specification's order, 4 last.
+-- What the reader answers, and what it leaves in the buffer and the list that it is lent: for every input and room,
+-- with the refusals in the specification's order, 4 last.
 use Prim.Native.Nat.{ℕ, _/_}
 use mathlib.Core.List.{List, _∷_}
 use lib.Dec.{ltb}

@@ -1,4 +1,5 @@
--- What the reader's answer means, and that room for the largest payload is room for every one. The proofs are in `proofs/Meaning.antt`.
+-- What the reader's answer means, and that room for the largest payload is room for every one. The proofs are in
+-- `proofs/Meaning.antt`.
 use mathlib.Core.Path.{_≡_}
 use mathlib.Core.List.{List}
 use Prim.Native.Nat.{ℕ, _+_, _*_, _≤_}
@@ -10,7 +11,8 @@ use Rattle.env.specs.Numbers.{recordWidth, listLimit, packed, held}
 use Rattle.env_delivery.specs.declared.Answer.the-variants.{Read}
 use Rattle.env_delivery.specs.Promise.{readInto}
 
--- Where the reader answers that a payload is read, it says that first byte and the variables that so many bytes and so many records hold.
+-- Where the reader answers that a payload is read, it says that first byte and the variables that the bytes and records
+-- it counts hold.
 abbrev pub ReadIsHeld : Type 0
 ReadIsHeld =
     (payload bytes numbers : List ℕ) (first count used : ℕ)

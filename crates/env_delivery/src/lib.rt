@@ -10,8 +10,8 @@ use octets::put;
 use refusal::NO_ROOM;
 use refusal::REPEATED_VARIABLE;
 
-// A payload that was read: its first byte, the number of its variables, and of the bytes that their names and values take; or the number by
-// which it is refused.
+// A payload that was read: its first byte, the number of its variables, and of the bytes that their names and values
+// take; or the number by which it is refused.
 pub enum Answer {
     Read(u8, usize, usize),
     Refused(u8),
@@ -53,7 +53,8 @@ pub fn hand_over(
     Answer::Read(first, records.len() / RECORD_WIDTH, texts.len())
 }
 
-// Hands over texts and records that were read, unless a variable is there twice. A check that comes before 4 has its place here.
+// Hands over texts and records that were read, unless a variable is there twice. A check that comes before 4 has its
+// place here.
 pub fn deliver(
     first: u8,
     texts: &[u8],

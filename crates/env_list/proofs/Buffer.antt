@@ -1,4 +1,5 @@
--- A local array that a walk lends, as `&mut` and then as `&`, and takes back: `Denote/Lend.antt`'s steps for a slice, of a whole local.
+-- A local array that a walk lends, as `&mut` and then as `&`, and takes back: `Denote/Lend.antt`'s steps for a slice,
+-- of a whole local.
 --     Lies             the elements lie in the local's memory
 --     filled           a local that was filled with copies of a value, with what they own, has them lie there
 --     lends, back      it is lent as a `&mut` slice; and once the lifetime is over it is there again, with the slice's last list

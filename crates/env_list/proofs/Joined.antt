@@ -1,5 +1,5 @@
--- What is delivered as numbers, listed as records: the numbers of a delivery, set in front of a list with the same room, are what `readRecords`
--- says. Assumes nothing.
+-- What is delivered as numbers, listed as records: the numbers of a delivery, set in front of a list with the same
+-- room, are what `readRecords` says. Assumes nothing.
 use mathlib.Core.Path.{_≡_, refl, ap, _∙_}
 use mathlib.Core.List.{List, _++_, append-assoc}
 use Prim.Native.Nat.{ℕ, zero, suc, _+_, _*_, _/_, _≤_, _<_}

@@ -1,6 +1,7 @@
--- What the walks over a lent slice of variable records share. The borrow checker does not cover a slice of structs, so each function that takes
--- one is proved by a walk of its code in the program logic; this is the part of such a walk that touches the slice. Between statements a walk
--- holds of a `&mut` slice the list (`says-list`), the borrow (`loan`) and the token of its lifetime, in this order.
+-- What the walks over a lent slice of variable records share. The borrow checker does not cover a slice of structs, so
+-- each function that takes one is proved by a walk of its code in the program logic; this is the part of such a walk
+-- that touches the slice. Between statements a walk holds of a `&mut` slice the list (`says-list`), the borrow (`loan`)
+-- and the token of its lifetime, in this order.
 --     vals, typed      a record's machine values, and that they are of the record's type
 --     local, field-of, lets    a local is read, or a field of it; a local gets its first value
 --     offset-to        the place of record i, as the code computes it
@@ -100,7 +101,8 @@ module _ {M : Type 1} {𝓤 : URA M} {H : Heap 𝓤} {A : Atoms 𝓤} {K : Type 
       fjoin t $ pureI t (at-slice T.the-row (record { ptr = (b, o); name = γ; now = zs }) (sliceVal (b, o) (length ys) ∷ [])) (tt, (tt, tt))
       (ap (λ (m : ℕ). sliceVal (b, o) m ∷ []) (sym same), subst (Room T.the-row) (sym same) room) $ fjoin t $ s)
 
-  -- a record is stored to the place of record i: the borrow is opened, the record at i is taken out, overwritten and put back, and the borrow is closed
+  -- a record is stored to the place of record i: the borrow is opened, the record at i is taken out, overwritten and
+  -- put back, and the borrow is closed
   pub stores : K → {C : Calls 𝓤 H} {Λ : Loops 𝓤 H} {E : Env 𝓤 H} {Q : Post 𝓤 H} {p : Place} {x : Operand} {rest : Body} {κ : Lft} {q : Share}
       {γ : GName} (ys : List VariableRecord) (i : ℕ) (v : VariableRecord) (b o : ℕ)
       → i < length ys → Is T.the-row v (vals v)

@@ -1,5 +1,5 @@
--- What the reader into a list of records answers, and what it leaves in the buffer and the list that it is lent: for every input and room, with
--- the refusals in the specification's order, 4 last.
+-- What the reader into a list of records answers, and what it leaves in the buffer and the list that it is lent: for
+-- every input and room, with the refusals in the specification's order, 4 last.
 use Prim.Native.Nat.{ℕ}
 use mathlib.Core.List.{List, _++_}
 use lib.Dec.{ltb}
@@ -14,7 +14,8 @@ use Rattle.octets.specs.Choice.{if_then_else_}
 use Rattle.octets.specs.Lent.{Outcome, outcome, overwrite}
 use Rattle.env_list.specs.Lists.{Listing, listing}
 
--- a reading, with names and values put into the buffer and their records in front of the list; the rest of both is as it was
+-- a reading, with names and values put into the buffer and their records in front of the list; the rest of both is as
+-- it was
 unfoldable pub listed : Reading → List ℕ → List VariableRecord → Listing (Outcome Answer)
 listed (notRead n) bytes list = listing (outcome (Refused n) bytes) list
 listed (says first vs) bytes list =

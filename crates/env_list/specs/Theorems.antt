@@ -9,7 +9,8 @@ use Rattle.env.specs.declared.VariableRecord.{VariableRecord}
 use Rattle.env_delivery.specs.declared.Answer.the-variants.{Read}
 use Rattle.env_list.specs.Reading.{readRecords}
 
--- Where a payload is read, it says the variables that the records have over the buffer: as many as the answer tells of, from the front of the list.
+-- Where a payload is read, it says the variables that the records have over the buffer: as many as the answer tells of,
+-- from the front of the list.
 abbrev pub ListsTheVariables : Type 0
 ListsTheVariables =
     (payload bytes : List ℕ) (list : List VariableRecord) (first count used : ℕ)

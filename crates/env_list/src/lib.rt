@@ -56,7 +56,8 @@ fn set_all(records: &mut [VariableRecord], numbers: &[usize], n: usize)
     }
 }
 
-// Reads a payload with the numbers of as many records as a list has room for; a payload has no more variables than the limit.
+// Reads a payload with the numbers of as many records as a list has room for; a payload has no more variables than the
+// limit.
 fn read_numbers(payload: &[u8], bytes: &mut [u8], numbers: &mut [usize], room: usize) -> Answer
     requires { ⌜ length (now numbers) ≡ listLimit ⌝ }
     ensures { λ r. ⌜ Numbered (now (payload .entry)) (now (bytes .entry)) room r (now (bytes .exit)) (now (numbers .exit)) ⌝ }

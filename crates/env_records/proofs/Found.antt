@@ -1,5 +1,5 @@
--- What a look-up finds is the value of the first variable of that kind and name, and it finds nothing exactly where there is none.
--- Assumes nothing.
+-- What a look-up finds is the value of the first variable of that kind and name, and it finds nothing exactly where
+-- there is none. Assumes nothing.
 use mathlib.Core.Path.{_≡_, refl, sym, ap, _∙_}
 use mathlib.Core.Bool.{Bool, true, false, _||_}
 use mathlib.Core.List.{List, [], _∷_, map}

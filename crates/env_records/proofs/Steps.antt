@@ -1,4 +1,5 @@
--- Walking a list of records: record i, the variables of the records from it on, and that they are well placed. Assumes nothing.
+-- Walking a list of records: record i, the variables of the records from it on, and that they are well placed. Assumes
+-- nothing.
 use mathlib.Core.Path.{_≡_, refl, sym, ap, _∙_}
 use mathlib.Core.Bool.{true, false, _&&_, _||_}
 use mathlib.Core.List.{List, [], _∷_, _++_, map}

@@ -1,4 +1,4 @@
-// The list of variable records over a slice of numbers, so many for each record.
+// The list of variable records over a slice of numbers, RECORD_WIDTH for each record.
 ghost use mathlib.Core.Path.{_≡_};
 ghost use mathlib.Core.List.{[]};
 ghost use Prim.Native.Nat.{_+_, _-_, _*_, _/_, _<_};
@@ -110,7 +110,8 @@ pub fn find(bytes: &[u8], numbers: &[usize], kind: usize, name: &[u8]) -> ValueP
     ValuePlace::Absent
 }
 
-// The value of the first record of a kind and name; empty where there is none, which `find` tells apart from an empty value.
+// The value of the first record of a kind and name; empty where there is none, which `find` tells apart from an empty
+// value.
 pub fn value_of<'a>(bytes: &'a [u8], numbers: &[usize], kind: usize, name: &[u8]) -> &'a [u8]
     ensures { λ r. ⌜ now r ≡ valueOr [] (lookup kind (now (name .entry)) (held (now (bytes .entry)) (now (numbers .entry)))) ⌝ }
 {

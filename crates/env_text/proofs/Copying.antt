@@ -1,4 +1,5 @@
--- Laws of a copy of the first bytes of a text: where there is room for it and where not, one byte of it, and its end. Assumes nothing.
+-- Laws of a copy of the first bytes of a text: where there is room for it and where not, one byte of it, and its end.
+-- Assumes nothing.
 use mathlib.Core.Path.{_≡_, refl, sym, ap, _∙_}
 use mathlib.Core.Bool.{Bool, true, false}
 use mathlib.Core.List.{List, []}

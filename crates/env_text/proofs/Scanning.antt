@@ -1,4 +1,5 @@
--- Laws of a name or a value at the front of bytes: by the bytes that stand there, and what the row of the bytes says of it. Assumes nothing.
+-- Laws of a name or a value at the front of bytes: by the bytes that stand there, and what the row of the bytes says of
+-- it. Assumes nothing.
 use mathlib.Core.Path.{_≡_, refl, sym, ap, _∙_}
 use mathlib.Core.Bool.{Bool, true, false}
 use mathlib.Core.List.{List, [], _∷_}

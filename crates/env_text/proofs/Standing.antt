@@ -1,5 +1,5 @@
--- Laws of a text that stands in a payload: it is the text at the front of the row of the bytes, whole or broken, and it ends within the payload.
--- By induction on the bytes. Assumes nothing.
+-- Laws of a text that stands in a payload: it is the text at the front of the row of the bytes, whole or broken, and it
+-- ends within the payload. By induction on the bytes. Assumes nothing.
 use mathlib.Core.Path.{_≡_, refl, sym, ap, _∙_}
 use mathlib.Core.Bool.{Bool, true, false}
 use mathlib.Core.List.{List, [], _∷_}

@@ -40,13 +40,15 @@ endsText (suc (suc zero) ∷ bs) = false
 endsText (suc (suc (suc zero)) ∷ bs) = true
 endsText (suc (suc (suc (suc b))) ∷ bs) = false
 
--- the text from a place on: whole, where nothing stands after it, or a VAR, VALUE or USERVAR; its length, and the place after it
+-- the text from a place on: whole, where nothing stands after it, or a VAR, VALUE or USERVAR; its length, and the place
+-- after it
 unfoldable pub textAt : List ℕ → ℕ → Text
 textAt s from =
     let t = textOf (drop from s) in
     record { whole = endsText (t .behind); length = length (t .bytes); end = length s - length (t .behind) }
 
--- the first bytes of a text, put at a place of a buffer; where there is no room for so many a refusal, and the buffer is as it was
+-- the first bytes of a text, put at a place of a buffer; where there is no room for them a refusal, and the buffer is
+-- as it was
 unfoldable pub copyText : List ℕ → ℕ → ℕ → List ℕ → ℕ → Outcome Bool
 copyText s from count out at =
     if leb (at + count) (length out) then outcome true (overwrite out at (take count (textOf (drop from s) .bytes))) else outcome false out

@@ -91,7 +91,8 @@ pub fn text_at(s: &[u8], from: usize) -> Text
     }
 }
 
-// Copies the first `count` bytes of the text from a place on, without its ESCs, to a place of the buffer; where so many do not fit, nothing.
+// Copies the first `count` bytes of the text from a place on, without its ESCs, to a place of the buffer; where they do
+// not fit, nothing.
 pub fn copy_text(s: &[u8], from: usize, count: usize, out: &mut [u8], at: usize) -> bool
     ensures { λ r. ⌜ outcome r (now (out .exit)) ≡ copyText (now (s .entry)) from count (now (out .entry)) at ⌝ }
 {

@@ -1,4 +1,5 @@
--- The laws of the turns of name reader and value reader: what the fields say of the variables, and how what is stored after a name or a value becomes what is stored from it on. Assumes nothing.
+-- The laws of the turns of name reader and value reader: what the fields say of the variables, and how what is stored
+-- after a name or a value becomes what is stored from it on. Assumes nothing.
 use mathlib.Core.Path.{_≡_, refl, sym, ap, _∙_}
 use mathlib.Core.Bool.{Bool, true, false}
 use mathlib.Core.List.{List, [], _∷_, _++_}

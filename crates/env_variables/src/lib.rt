@@ -1,6 +1,7 @@
-// Environment strings: reading the variables of a payload of NEW-ENVIRON. What is right is said in the crate `env`; what is answered, and left in
-// buffer and list, in the crate `env_delivery`. A name gives way to its value and a value to the next name: the two readers call each other, each on the
-// part of the payload that is left. They fill a buffer and a list of the reader's own; what is lent is touched only when nothing can be refused any more.
+// Environment strings: reading the variables of a payload of NEW-ENVIRON. What is right is said in the crate `env`;
+// what is answered, and left in buffer and list, in the crate `env_delivery`. A name gives way to its value and a value
+// to the next name: the two readers call each other, each on the part of the payload that is left. They fill a buffer
+// and a list of the reader's own; what is lent is touched only when nothing can be refused any more.
 ghost use mathlib.Core.Bool.{true};
 ghost use mathlib.Core.Path.{_≡_};
 ghost use mathlib.Core.List.{[], _∷_};
@@ -35,7 +36,8 @@ use refusal::PAYLOAD_TOO_LONG;
 use refusal::TOO_MANY_VARIABLES;
 use refusal::VALUE_IN_VALUE;
 
-// How far the variables of a payload have been read: how many they are and the bytes that they take; or the number of a fault.
+// How far the variables of a payload have been read: how many they are and the bytes that they take; or the number of a
+// fault.
 pub enum Found {
     Variables(usize, usize),
     Fault(u8),
@@ -68,7 +70,8 @@ fn take_text(rest: &[u8], bytes: &mut [u8], at: usize) -> Text
     t
 }
 
-// Puts the value after a name at a place of the buffer; where no VALUE stands, it is empty and takes nothing of the rest.
+// Puts the value after a name at a place of the buffer; where no VALUE stands, it is empty and takes nothing of the
+// rest.
 fn take_value(rest: &[u8], bytes: &mut [u8], at: usize) -> Text
     requires { ⌜ (endsText (now rest) ≡ true) × (at + length (now rest) ≤ length (now bytes)) ⌝ }
     ensures { λ r. ⌜ IsValue (now (rest .entry)) (now (bytes .entry)) at r (now (bytes .exit)) ⌝ }
@@ -137,7 +140,8 @@ fn name(
     value(&rest[end..], kind, bytes, at, t.length, numbers, k)
 }
 
-// The value of a name that has been read. After a value a VALUE is a fault; after a name without one it cannot be what stands next.
+// The value of a name that has been read. After a value a VALUE is a fault; after a name without one it cannot be what
+// stands next.
 fn value(
     rest: &[u8],
     kind: u8,
@@ -170,8 +174,8 @@ fn value(
     )
 }
 
-// Finds the variables of what stands after the first byte of a payload. Names and values without their ESCs go back to back into the buffer, and
-// their records into the list: room for as many as a payload can hold.
+// Finds the variables of what stands after the first byte of a payload. Names and values without their ESCs go back to
+// back into the buffer, and their records into the list: room for as many as a payload can hold.
 fn find_variables(
     rest: &[u8],
     texts: &mut [u8; PAYLOAD_LIMIT],
@@ -186,8 +190,8 @@ fn find_variables(
     name(rest, NO_VARIABLE, texts, 0, records, 0)
 }
 
-// Reads what stands after the first byte of a payload, and delivers its variables. Names and values without their ESCs go back to back into the
-// buffer, and their records into the list, when nothing can be refused any more.
+// Reads what stands after the first byte of a payload, and delivers its variables. Names and values without their ESCs
+// go back to back into the buffer, and their records into the list, when nothing can be refused any more.
 pub fn read_variables(first: u8, rest: &[u8], bytes: &mut [u8], numbers: &mut [usize]) -> Answer
     ensures { λ r. ⌜
         delivery r (now (bytes .exit)) (now (numbers .exit))

@@ -45,7 +45,8 @@ module _ (first : ℕ) (bytes l out : List ℕ) (e : isFirst first ≡ true) (p 
   unfolding objection
   twice n m r = notRead (rw (n, le-ltb variableLimit (length (held bytes l)) (omega (arith, length-held bytes l)), r))
 
--- good records and nothing against their variables but, perhaps, the length of the payload, which is measured up to one past the limit
+-- good records and nothing against their variables but, perhaps, the length of the payload, which is measured up to one
+-- past the limit
 module _ (first : ℕ) (bytes l out : List ℕ) (e : isFirst first ≡ true) (p : placed bytes l ≡ true)
     (n : nameless (held bytes l) ≡ false) (m : length l / recordWidth ≤ variableLimit) (r : repeated (held bytes l) ≡ false)
     (k : ℕ) (measured : k ≡ min (payloadLimit + 1) (1 + length (writtenVariables (held bytes l)))) where

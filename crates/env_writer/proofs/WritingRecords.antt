@@ -1,5 +1,5 @@
--- The laws by which the writer walks a list of records: what a good record says, and its variable, before those after it.
--- Assumes nothing.
+-- The laws by which the writer walks a list of records: what a good record says, and its variable, before those after
+-- it. Assumes nothing.
 use mathlib.Core.Path.{_≡_, refl, sym, ap, _∙_}
 use mathlib.Core.Bool.{Bool, true, false, _&&_, _||_}
 use mathlib.Core.List.{List, [], _∷_, _++_}

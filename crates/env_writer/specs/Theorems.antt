@@ -8,7 +8,8 @@ use Rattle.env.specs.Numbers.{held}
 use Rattle.env_writer.specs.declared.Written.the-variants.{Wrote}
 use Rattle.env_writer.specs.Promise.{writeInto}
 
--- Where the writer answers that it wrote n bytes, the first n of what was lent read as that first byte and the variables that the records hold.
+-- Where the writer answers that it wrote n bytes, the first n of what was lent read as that first byte and the
+-- variables that the records hold.
 abbrev pub WroteReadsBack : Type 0
 WroteReadsBack =
     (first : ℕ) (bytes numbers out : List ℕ) (n : ℕ) → writeInto first bytes numbers out .answer ≡ Wrote n

@@ -1,5 +1,5 @@
-// Environment strings: writing a payload of NEW-ENVIRON. What is right is said in the crate `env`; what is answered, and left in the
-// buffer, in `specs/Promise.antt`.
+// Environment strings: writing a payload of NEW-ENVIRON. What is right is said in the crate `env`; what is answered,
+// and left in the buffer, in `specs/Promise.antt`.
 ghost use mathlib.Core.Path.{_≡_};
 ghost use mathlib.Core.Bool.{true};
 ghost use mathlib.Core.List.{List};
@@ -67,8 +67,8 @@ fn any_nameless(numbers: &[usize]) -> bool
     false
 }
 
-// A length with a name or a value after it; past the limit, one past it. Names and values may overlap in the buffer, so that the sum of all
-// could wrap.
+// A length with a name or a value after it; past the limit, one past it. Names and values may overlap in the buffer, so
+// that the sum of all could wrap.
 fn longer(n: usize, text: &[u8]) -> usize
     requires { ⌜ n ≤ payloadLimit + 3 ⌝ }
     ensures { λ r. ⌜ r ≡ min (payloadLimit + 1) (n + length (escaped (now (text .entry)))) ⌝ }
@@ -141,7 +141,8 @@ fn put_all(bytes: &[u8], numbers: &[usize], out: &mut [u8])
     }
 }
 
-// Writes a first byte, and the variables that records have over `bytes`, to the front of `out`. A refusal leaves `out` as it was.
+// Writes a first byte, and the variables that records have over `bytes`, to the front of `out`. A refusal leaves `out`
+// as it was.
 pub fn write(first: u8, bytes: &[u8], numbers: &[usize], out: &mut [u8]) -> Written
     ensures { λ r. ⌜ outcome r (now (out .exit)) ≡ writeInto first (now (bytes .entry)) (now (numbers .entry)) (now (out .entry)) ⌝ }
 {

@@ -1,4 +1,5 @@
--- Numbers that name the cases of an enum, where every other number reads as one of them: a case is named by its own number alone. Assumes nothing.
+-- Numbers that name the cases of an enum, where every other number reads as one of them: a case is named by its own
+-- number alone. Assumes nothing.
 use mathlib.Core.Path.{_≡_, sym, ap, _∙_}
 use mathlib.Core.Logic.{_↔_, _⊎_, ⊎-elim}
 use Prim.Native.Nat.{ℕ}

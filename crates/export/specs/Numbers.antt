@@ -69,7 +69,8 @@ kindNamed w c o =
 abbrev pub NoCode : ℕ → Type 0
 NoCode c = (c < 251) ⊎ (254 < c)
 
--- Which kind numbers name: the numbers of a kind name it, and what is none of 1 to 4, or 3 with a code that is no option command, names nothing.
+-- Which kind numbers name: the numbers of a kind name it, and what is none of 1 to 4, or 3 with a code that is no
+-- option command, names nothing.
 pub record KindsNamed : Type 0 where
   pub back : (k : Kind) → kindNamed (kindNumbers k .what) (kindNumbers k .code) (kindNumbers k .option) ≡ IsKind k
   pub noVerb : (c : ℕ) → (verbNamed c ≡ NoVerb) ↔ NoCode c

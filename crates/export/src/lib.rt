@@ -1,13 +1,14 @@
-// What the exported functions share: the kind of an event as three numbers, the kind that three numbers name, what a writer answers, and marks. Which number stands
-// for what is said in `specs/Numbers.antt`. The exports are in the crates `export_telnet`, `export_option` and their like.
+// What the exported functions share: the kind of an event as three numbers, the kind that three numbers name, what a
+// writer answers, and marks. Which number stands for what is said in `specs/Numbers.antt`. The exports are in the
+// crates `export_telnet`, `export_option` and their like.
 ghost use mathlib.Core.Path.{_≡_};
 ghost use Rattle.export.specs.Numbers.{kindNumbers, verbNamed, negotiationNamed, kindNamed, KindsNamed, mark};
 ghost use Rattle.telnet.specs.Event.{code};
 use telnet::Kind;
 use telnet::Verb;
 
-// The kind of an event. `what` is 1 for data, 2 for a command, 3 for a negotiation, 4 for a subnegotiation. `code` is the command, or 251 to 254 for
-// WILL, WONT, DO and DONT. `option` is the option byte. What a kind does not have is 0.
+// The kind of an event. `what` is 1 for data, 2 for a command, 3 for a negotiation, 4 for a subnegotiation. `code` is
+// the command, or 251 to 254 for WILL, WONT, DO and DONT. `option` is the option byte. What a kind does not have is 0.
 pub struct KindNumbers {
     pub what: u8,
     pub code: u8,

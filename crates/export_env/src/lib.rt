@@ -1,7 +1,8 @@
-// Environment strings, for a caller in C. Each function answers with numbers: which number stands for what is said at the structs and in
-// `specs/Numbers.antt`. A `refusal` is 0 where there is none; else it is the refusal's number, and every other field is 0. A slice is a pointer and a
-// length. A list of variable records is a slice of numbers, five for each: its kind (0 VAR, 3 USERVAR), the place and the length of its name in a buffer,
-// and the place and the length of its value there.
+// Environment strings, for a caller in C. Each function answers with numbers: which number stands for what is said at
+// the structs and in `specs/Numbers.antt`. A `refusal` is 0 where there is none; else it is the refusal's number, and
+// every other field is 0. A slice is a pointer and a length. A list of variable records is a slice of numbers, five for
+// each: its kind (0 VAR, 3 USERVAR), the place and the length of its name in a buffer, and the place and the length of
+// its value there.
 ghost use mathlib.Core.Path.{_≡_};
 ghost use Rattle.export_env.specs.Numbers.{payloadNumbers, readOut, readNumbers, writtenNumbers, placeNumbers};
 ghost use Rattle.export.specs.Numbers.{numbered};
@@ -14,7 +15,8 @@ use env_records::ValuePlace;
 use env_writer::Written;
 use export::TvWritten;
 
-// A payload that was read: its first byte (0 IS, 2 INFO), how many variables it has, and how many bytes their names and values take.
+// A payload that was read: its first byte (0 IS, 2 INFO), how many variables it has, and how many bytes their names and
+// values take.
 #[repr(C)]
 pub struct TvPayload {
     pub refusal: u8,
@@ -79,8 +81,8 @@ fn place_numbers(place: ValuePlace) -> TvValue
     }
 }
 
-// Reads a payload of NEW-ENVIRON. Names and values go back to back into `bytes`, and the records of their variables into `numbers`. Refused by 3, 20 to 25
-// and 4.
+// Reads a payload of NEW-ENVIRON. Names and values go back to back into `bytes`, and the records of their variables
+// into `numbers`. Refused by 3, 20 to 25 and 4.
 #[no_mangle]
 pub extern "C" fn tv_env_read(payload: &[u8], bytes: &mut [u8], numbers: &mut [usize]) -> TvPayload
     ensures { λ r. ⌜
@@ -91,7 +93,8 @@ pub extern "C" fn tv_env_read(payload: &[u8], bytes: &mut [u8], numbers: &mut [u
     payload_numbers(env_reader::read(payload, bytes, numbers))
 }
 
-// Writes a payload to the front of `out`: its first byte, and the variables that the records have over `bytes`. Refused by 20, 27, 21, 24, 25, 3 and 4.
+// Writes a payload to the front of `out`: its first byte, and the variables that the records have over `bytes`. Refused
+// by 20, 27, 21, 24, 25, 3 and 4.
 #[no_mangle]
 pub extern "C" fn tv_env_write(
     first: u8,
@@ -107,8 +110,8 @@ pub extern "C" fn tv_env_write(
     written_numbers(env_writer::write(first, bytes, numbers, out))
 }
 
-// Where the value stands of the first variable of a kind and name. The place is the record's own: records that `tv_env_read` set keep within `bytes`,
-// others may not.
+// Where the value stands of the first variable of a kind and name. The place is the record's own: records that
+// `tv_env_read` set keep within `bytes`, others may not.
 #[no_mangle]
 pub extern "C" fn tv_env_value(bytes: &[u8], numbers: &[usize], kind: usize, name: &[u8]) -> TvValue
     ensures { λ r. ⌜ r ≡ placeNumbers (placeOf kind (now (name .entry)) (now (bytes .entry)) (now (numbers .entry))) ⌝ }

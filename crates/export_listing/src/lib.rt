@@ -1,5 +1,5 @@
-// The listing of a stream, for a caller in C. A `refusal` is 0 where there is none; else it is the refusal's number, and the length is 0. A slice is a
-// pointer and a length.
+// The listing of a stream, for a caller in C. A `refusal` is 0 where there is none; else it is the refusal's number,
+// and the length is 0. A slice is a pointer and a length.
 ghost use mathlib.Core.Path.{_≡_};
 ghost use Rattle.export_listing.specs.Numbers.{listedNumbers};
 ghost use Rattle.export.specs.Numbers.{numbered};

@@ -117,7 +117,8 @@ whoseNamed t = if t then Ours else Other
 abbrev pub commandNamed : Bool → Command
 commandNamed t = if t then on else off
 
--- Which state a number names: each its own number alone, and every other reads as off; and the numbers of the sides name them.
+-- Which state a number names: each its own number alone, and every other reads as off; and the numbers of the sides
+-- name them.
 pub record SidesNamed : Type 0 where
   pub back : (s : Sides) → sidesNamed (sidesNumbers s) ≡ s
   pub on : (n : ℕ) → (sideNamed n ≡ On) ↔ (n ≡ 1)

@@ -1,5 +1,5 @@
-// The ten sides of a session, for a caller in C. States and answers are numbers: which number stands for what is said at the structs and in
-// `specs/Numbers.antt`. The caller keeps the sides and hands them in with each call.
+// The ten sides of a session, for a caller in C. States and answers are numbers: which number stands for what is said
+// at the structs and in `specs/Numbers.antt`. The caller keeps the sides and hands them in with each call.
 ghost use mathlib.Core.Path.{_≡_};
 ghost use Rattle.export_option.specs.Numbers.{sideNumber, sideNamed, pairNumbers, pairNamed, sidesNumbers, sidesNamed, whoseNamed, commandNamed};
 ghost use Rattle.export_option.specs.Numbers.{isRefusal, handedBack, answeredNumbers, receiveNamed, sentNumbers, receiveOnNamed, SidesNamed};
@@ -17,7 +17,8 @@ use option_sides::Pair;
 use option_sides::Sides;
 use option_sides::Whose;
 
-// The two sides of one option, each by its state: 0 off, 1 on, 2 want off, 3 want off then on, 4 want on, 5 want on then off. A number above 5 reads as off.
+// The two sides of one option, each by its state: 0 off, 1 on, 2 want off, 3 want off then on, 4 want on, 5 want on
+// then off. A number above 5 reads as off.
 #[repr(C)]
 pub struct TvPair {
     pub ours: u8,
@@ -34,8 +35,9 @@ pub struct TvSides {
     pub environ: TvPair,
 }
 
-// The sides after a call, and `number`, a refusal, a note (14) or 0. `writes` is 1 where an option command is to be sent, with its `code` (251 to 254 for
-// WILL, WONT, DO and DONT) and its `option`; else the three are 0. A refusal hands back the sides by the numbers that were given.
+// The sides after a call, and `number`, a refusal, a note (14) or 0. `writes` is 1 where an option command is to be
+// sent, with its `code` (251 to 254 for WILL, WONT, DO and DONT) and its `option`; else the three are 0. A refusal
+// hands back the sides by the numbers that were given.
 #[repr(C)]
 pub struct TvAnswered {
     pub sides: TvSides,
@@ -45,8 +47,8 @@ pub struct TvAnswered {
     pub option: u8,
 }
 
-// The sides after a step whose command went on a line, `number` as above, and the place after what was put there. A refusal hands back sides and place as
-// they were given.
+// The sides after a step whose command went on a line, `number` as above, and the place after what was put there. A
+// refusal hands back sides and place as they were given.
 #[repr(C)]
 pub struct TvSent {
     pub sides: TvSides,
@@ -205,8 +207,8 @@ pub extern "C" fn tv_sides_fresh() -> TvSides
     sides_numbers(Sides::fresh())
 }
 
-// WILL, WONT, DO or DONT (251 to 254) was received, with its option byte; on is accepted or declined where that is open. Refused by 6 where the code is no
-// option command.
+// WILL, WONT, DO or DONT (251 to 254) was received, with its option byte; on is accepted or declined where that is
+// open. Refused by 6 where the code is no option command.
 #[no_mangle]
 pub extern "C" fn tv_sides_receive(sides: TvSides, code: u8, option: u8, accept: bool) -> TvAnswered
     ensures { λ r. ⌜ r ≡ receiveNamed sides (verbNamed code) option accept ⌝ }
@@ -235,8 +237,8 @@ pub extern "C" fn tv_sides_request(sides: TvSides, ours: bool, option: u8, on: b
     answered_numbers(sides, sides_named(sides).request(whose, option, command))
 }
 
-// WILL, WONT, DO or DONT was received, and the answer goes on the line at a place. Refused by 5; by 6 where the code is no option command; by 4 where the
-// answer does not fit.
+// WILL, WONT, DO or DONT was received, and the answer goes on the line at a place. Refused by 5; by 6 where the code is
+// no option command; by 4 where the answer does not fit.
 #[no_mangle]
 pub extern "C" fn tv_option_receive(
     sides: TvSides,
@@ -272,7 +274,8 @@ pub extern "C" fn tv_option_receive(
     }
 }
 
-// This end asks for our side or the other's to be on or off, and the command goes on the line at a place. Refused by 5; by 10, 11, 12 or 13; by 4.
+// This end asks for our side or the other's to be on or off, and the command goes on the line at a place. Refused by 5;
+// by 10, 11, 12 or 13; by 4.
 #[no_mangle]
 pub extern "C" fn tv_option_request(
     sides: TvSides,
@@ -296,8 +299,8 @@ pub extern "C" fn tv_option_request(
     )
 }
 
-// This end hears what stands at a place of the other's line, and answers on its own line at a place if that is an option command. Refused by 5 for either
-// place; by 1, 2, 3 or 6 where it cannot be read; by 4.
+// This end hears what stands at a place of the other's line, and answers on its own line at a place if that is an
+// option command. Refused by 5 for either place; by 1, 2, 3 or 6 where it cannot be read; by 4.
 #[no_mangle]
 pub extern "C" fn tv_option_hear(
     sides: TvSides,

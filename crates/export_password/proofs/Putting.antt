@@ -1,4 +1,5 @@
--- Twenty bytes written to the front of a buffer are `octets::put` of them, and what its answer makes of the numbers. Assumes nothing.
+-- Twenty bytes written to the front of a buffer are `octets::put` of them, and what its answer makes of the numbers.
+-- Assumes nothing.
 use mathlib.Core.Path.{_≡_}
 use mathlib.Core.Bool.{Bool, true, false}
 use mathlib.Core.Logic.{⊎-elim}

@@ -1,6 +1,7 @@
-// Tokens and substitutes, for a caller in C. Each function answers with numbers: which number stands for what is said at the structs and in
-// `specs/Numbers.antt`. A `refusal` is 0 where there is none; else it is the refusal's number, and every other field is 0. A slice is a pointer and a
-// length. Seeds, and tokens and substitutes of DES, are numbers of eight bytes, the first byte highest; those of SHA-1 are twenty bytes.
+// Tokens and substitutes, for a caller in C. Each function answers with numbers: which number stands for what is said
+// at the structs and in `specs/Numbers.antt`. A `refusal` is 0 where there is none; else it is the refusal's number,
+// and every other field is 0. A slice is a pointer and a length. Seeds, and tokens and substitutes of DES, are numbers
+// of eight bytes, the first byte highest; those of SHA-1 are twenty bytes.
 ghost use mathlib.Core.Path.{_≡_};
 ghost use lib.ListN.{length};
 ghost use Rattle.export_password.specs.Numbers.{shaLength, blockNumbers, hashInto, substituteInto};
@@ -92,7 +93,8 @@ pub extern "C" fn tv_des_substitute(
     block_numbers(password_des::des_substitute(token, name, server_seed, client_seed))
 }
 
-// The substitute that a client sends for a SHA-1 token, at the front of `out`. Refused by 31 where the token has not twenty bytes, and by 33 and 4.
+// The substitute that a client sends for a SHA-1 token, at the front of `out`. Refused by 31 where the token has not
+// twenty bytes, and by 33 and 4.
 #[no_mangle]
 pub extern "C" fn tv_sha_substitute(
     token: &[u8],

@@ -1,6 +1,7 @@
-// Printer frames and the print ledger, for a caller in C. Each function answers with numbers: which number stands for what is said at the structs and in
-// `specs/Numbers.antt`. A `refusal` is 0 where there is none; else it is the refusal's number, and every other field is 0, but that the ledger is handed
-// back by the numbers that were given. A slice is a pointer and a length.
+// Printer frames and the print ledger, for a caller in C. Each function answers with numbers: which number stands for
+// what is said at the structs and in `specs/Numbers.antt`. A `refusal` is 0 where there is none; else it is the
+// refusal's number, and every other field is 0, but that the ledger is handed back by the numbers that were given. A
+// slice is a pointer and a length.
 ghost use mathlib.Core.Path.{_≡_};
 ghost use Rattle.export_print.specs.Numbers.{directionNumber, operationNumber, readNumbers, frameNumbers, ledgerNumbers, ledgerNamed};
 ghost use Rattle.export_print.specs.Numbers.{takenNumbers, completedNumbers, LedgerNamed};
@@ -19,8 +20,9 @@ use print_ledger::Ledger;
 use print_ledger::Receipt;
 use print_ledger::Taken;
 
-// What a frame says. `direction` is 1 for outbound, from the server, and 2 for inbound, from the client. `operation` is 1 for print or print complete and 2
-// for clear. The six marks are 1 or 0. Diagnostic bytes and print data are given by their places in the frame.
+// What a frame says. `direction` is 1 for outbound, from the server, and 2 for inbound, from the client. `operation` is
+// 1 for print or print complete and 2 for clear. The six marks are 1 or 0. Diagnostic bytes and print data are given by
+// their places in the frame.
 #[repr(C)]
 pub struct TvFrame {
     pub refusal: u8,
@@ -44,8 +46,8 @@ pub struct TvLedger {
     pub held: u8,
 }
 
-// The ledger after a frame, and what became of the frame: `receipt` is 1 where its record is held, 2 where a clear found a record held,
-// 3 where it found none.
+// The ledger after a frame, and what became of the frame: `receipt` is 1 where its record is held, 2 where a clear
+// found a record held, 3 where it found none.
 #[repr(C)]
 pub struct TvTaken {
     pub ledger: TvLedger,
@@ -215,7 +217,8 @@ pub extern "C" fn tv_ledger_fresh() -> TvLedger
     ledger_numbers(Ledger::fresh())
 }
 
-// The ledger is given a frame from the line. A number above 1 reads as 0; a refusal hands the ledger back as it was given. Refused by 40 to 45, 52 and 50.
+// The ledger is given a frame from the line. A number above 1 reads as 0; a refusal hands the ledger back as it was
+// given. Refused by 40 to 45, 52 and 50.
 #[no_mangle]
 pub extern "C" fn tv_ledger_take(ledger: TvLedger, frame: &[u8]) -> TvTaken
     ensures { λ r. ⌜ r ≡ takenNumbers ledger (takeFrame (ledgerNamed ledger) (now (frame .entry))) ⌝ }
@@ -223,8 +226,8 @@ pub extern "C" fn tv_ledger_take(ledger: TvLedger, frame: &[u8]) -> TvTaken
     taken_numbers(ledger, ledger_named(ledger).take_frame(frame))
 }
 
-// The device has printed what is held: the print complete record goes to the front of `out`, and the ledger is idle. A number above 1 reads as 0; a
-// refusal hands the ledger back as it was given. Refused by 51 and 4.
+// The device has printed what is held: the print complete record goes to the front of `out`, and the ledger is idle. A
+// number above 1 reads as 0; a refusal hands the ledger back as it was given. Refused by 51 and 4.
 #[no_mangle]
 pub extern "C" fn tv_ledger_complete(ledger: TvLedger, out: &mut [u8]) -> TvCompleted
     ensures { λ r. ⌜ outcome r (now (out .exit)) ≡ numbered (completedNumbers ledger) (completeInto (ledgerNamed ledger) (now (out .entry))) ⌝ }

@@ -1,6 +1,6 @@
-// The profile table and the token maker, for a caller in C. Each function answers with numbers: which number stands for what is said at the structs and in
-// `specs/Numbers.antt`. A `refusal` is 0 where there is none; else it is the refusal's number, and every other field is 0. A slice is a pointer and a
-// length.
+// The profile table and the token maker, for a caller in C. Each function answers with numbers: which number stands for
+// what is said at the structs and in `specs/Numbers.antt`. A `refusal` is 0 where there is none; else it is the
+// refusal's number, and every other field is 0. A slice is a pointer and a length.
 ghost use mathlib.Core.Path.{_≡_};
 ghost use Rattle.export_profile.specs.Numbers.{tableNumbers, foundNumbers, madeNumbers};
 ghost use Rattle.export.specs.Numbers.{numbered};
@@ -23,8 +23,8 @@ pub struct TvTable {
     pub profiles: usize,
 }
 
-// The profile of a name. `present` is 1, with its two marks, 1 or 0, and the place of its record in the table; or 0 where the table has none, with the
-// others 0.
+// The profile of a name. `present` is 1, with its two marks, 1 or 0, and the place of its record in the table; or 0
+// where the table has none, with the others 0.
 #[repr(C)]
 pub struct TvFound {
     pub refusal: u8,
@@ -105,7 +105,8 @@ pub extern "C" fn tv_table_find(table: &[u8], name: &[u8]) -> TvFound
     found_numbers(profile_table::find(table, name))
 }
 
-// Writes the record of a name and a password, with its two marks, to the front of `out`: 42 bytes are always enough. Refused by 33, 34 and 4.
+// Writes the record of a name and a password, with its two marks, to the front of `out`: 42 bytes are always enough.
+// Refused by 33, 34 and 4.
 #[no_mangle]
 pub extern "C" fn tv_make_record(
     name: &[u8],

@@ -39,7 +39,8 @@ abbrev pub writtenNumbers : Written → TvWritten
 writtenNumbers (Wrote n) = wrote n
 writtenNumbers (NotWritten r) = notWritten r
 
--- Which verdict a number names: GRANT is 5 and no other number, and a number that is none of 1, 2, 3 and 5 is 0004; and the number of a verdict names it.
+-- Which verdict a number names: GRANT is 5 and no other number, and a number that is none of 1, 2, 3 and 5 is 0004; and
+-- the number of a verdict names it.
 pub record VerdictNamed : Type 0 where
   pub back : (v : Verdict) → verdictNamed (verdictNumber v) ≡ v
   pub panel : (n : ℕ) → (verdictNamed n ≡ Panel) ↔ (n ≡ 1)

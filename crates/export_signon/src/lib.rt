@@ -1,6 +1,6 @@
-// Sign-on verdicts and response records, for a caller in C. Each function answers with numbers: which number stands for what is said at the structs and in
-// `specs/Numbers.antt`. A `refusal` is 0 where there is none; else it is the refusal's number, and every other field is 0. A slice is a pointer and a
-// length.
+// Sign-on verdicts and response records, for a caller in C. Each function answers with numbers: which number stands for
+// what is said at the structs and in `specs/Numbers.antt`. A `refusal` is 0 where there is none; else it is the
+// refusal's number, and every other field is 0. A slice is a pointer and a length.
 ghost use mathlib.Core.Path.{_≡_};
 ghost use Rattle.export_signon.specs.Numbers.{verdictNumber, verdictNamed, answerNumbers, writtenNumbers, VerdictNamed};
 ghost use Rattle.export.specs.Numbers.{numbered};
@@ -75,7 +75,8 @@ pub fn verdicts_named()
     ensures { λ _. ⌜ VerdictNamed ⌝ }
 {}
 
-// The verdict on a payload of NEW-ENVIRON, by the server seed and the profile table. Refused by 35, 30 to 32, 3 and 20 to 25.
+// The verdict on a payload of NEW-ENVIRON, by the server seed and the profile table. Refused by 35, 30 to 32, 3 and 20
+// to 25.
 #[no_mangle]
 pub extern "C" fn tv_verdict(server_seed: &[u8], table: &[u8], payload: &[u8]) -> TvVerdict
     ensures { λ r. ⌜ r ≡ answerNumbers (answerOf (now («server_seed» .entry)) (now (table .entry)) (now (payload .entry))) ⌝ }
@@ -83,7 +84,8 @@ pub extern "C" fn tv_verdict(server_seed: &[u8], table: &[u8], payload: &[u8]) -
     answer_numbers(signon_verdict::verdict(server_seed, table, payload))
 }
 
-// Writes the response record to the front of `out`. A number that is no verdict reads as 4, so that no session is said to have started. Refused by 36 and 4.
+// Writes the response record to the front of `out`. A number that is no verdict reads as 4, so that no session is said
+// to have started. Refused by 36 and 4.
 #[no_mangle]
 pub extern "C" fn tv_response(
     device_fault: bool,

@@ -1,6 +1,6 @@
-// The events and records of a line, for a caller in C. Each function answers with numbers: which number stands for what is said at the structs and in
-// `specs/Numbers.antt`. A `refusal` is 0 where there is none; else it is the refusal's number, and every other field is 0. A slice is a pointer and a
-// length.
+// The events and records of a line, for a caller in C. Each function answers with numbers: which number stands for what
+// is said at the structs and in `specs/Numbers.antt`. A `refusal` is 0 where there is none; else it is the refusal's
+// number, and every other field is 0. A slice is a pointer and a length.
 ghost use mathlib.Core.Path.{_≡_};
 ghost use Rattle.export_telnet.specs.Numbers.{eventNumbers, recordNumbers, writtenNumbers, writeNamed};
 ghost use Rattle.export.specs.Numbers.{kindNamed, numbered};
@@ -14,9 +14,10 @@ use telnet_reader::Answer;
 use telnet_records::Record;
 use telnet_writer::Written;
 
-// What stands at a place. `what` is 0 where the input ended, 1 for data, 2 for a command, 3 for a negotiation, 4 for a subnegotiation. `code` is the
-// command, or 251 to 254 for WILL, WONT, DO and DONT. `option` is the option byte. `length` is how many bytes the event carries, `next` the place
-// after it. What an event does not have is 0, and all is 0 where the input ended.
+// What stands at a place. `what` is 0 where the input ended, 1 for data, 2 for a command, 3 for a negotiation, 4 for a
+// subnegotiation. `code` is the command, or 251 to 254 for WILL, WONT, DO and DONT. `option` is the option byte.
+// `length` is how many bytes the event carries, `next` the place after it. What an event does not have is 0, and all is
+// 0 where the input ended.
 #[repr(C)]
 pub struct TvEvent {
     pub what: u8,
@@ -27,7 +28,8 @@ pub struct TvEvent {
     pub next: usize,
 }
 
-// A record. `complete` is 1, with its length and the place after it; or 0, with no refusal where the input ended before an end-of-record.
+// A record. `complete` is 1, with its length and the place after it; or 0, with no refusal where the input ended before
+// an end-of-record.
 #[repr(C)]
 pub struct TvRecord {
     pub complete: u8,
@@ -115,7 +117,8 @@ pub extern "C" fn tv_look(s: &[u8], at: usize) -> TvEvent
     event_numbers(telnet_reader::look(s, at))
 }
 
-// The event at a place, with the bytes that it carries copied to the front of the buffer. Refused as `tv_look`, and by 4.
+// The event at a place, with the bytes that it carries copied to the front of the buffer. Refused as `tv_look`, and by
+// 4.
 #[no_mangle]
 pub extern "C" fn tv_read(s: &[u8], at: usize, out: &mut [u8]) -> TvEvent
     ensures { λ r. ⌜ outcome r (now (out .exit)) ≡ numbered eventNumbers (readAt (now (s .entry)) at (now (out .entry))) ⌝ }
@@ -131,8 +134,9 @@ pub extern "C" fn tv_read_record(s: &[u8], at: usize, out: &mut [u8]) -> TvRecor
     record_numbers(telnet_records::read_record(s, at, out))
 }
 
-// Writes the event that `what`, `code` and `option` name, with the numbers of `TvEvent`, to the front of the buffer; the bytes that it carries stand in
-// `payload`. What the named event does not have is not looked at. Refused by 7, also where the numbers name no event, and by 3 and 4.
+// Writes the event that `what`, `code` and `option` name, with the numbers of `TvEvent`, to the front of the buffer;
+// the bytes that it carries stand in `payload`. What the named event does not have is not looked at. Refused by 7, also
+// where the numbers name no event, and by 3 and 4.
 #[no_mangle]
 pub extern "C" fn tv_write(
     what: u8,

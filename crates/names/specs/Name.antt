@@ -1,4 +1,5 @@
--- Profile names, device names and system names (specification, "Tokens, substitutes, verdicts" and "Response records"), in ASCII.
+-- Profile names, device names and system names (specification, "Tokens, substitutes, verdicts" and "Response records"),
+-- in ASCII.
 use mathlib.Core.Bool.{Bool, _&&_, _||_}
 use mathlib.Core.List.{List, [], map}
 use Prim.Native.Nat.{ℕ, _-_}
@@ -21,7 +22,7 @@ raised text = map raisedByte text
 unfoldable pub isNameByte : ℕ → Bool
 isNameByte b = inRange 0x41 0x5A b || inRange 0x30 0x39 b || eqb b 0x24 || eqb b 0x23 || eqb b 0x40 || eqb b 0x5F
 
--- whether a text is a name of at most so many bytes, lower case raised first
+-- whether a text is a name of at most `limit` bytes, lower case raised first
 unfoldable pub isName : ℕ → List ℕ → Bool
 isName limit text = leb 1 (length text) && leb (length text) limit && every isNameByte (raised text)
 

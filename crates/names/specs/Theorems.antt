@@ -17,8 +17,8 @@ OwnEbcdic = (b : ℕ) → b < 256 → not (eqb (ebcdic b) substitute) ≡ isName
 abbrev pub Apart : Type 0
 Apart = (a b : ℕ) → a < 256 → b < 256 → isNameByte a ≡ true → isNameByte b ≡ true → ebcdic a ≡ ebcdic b → a ≡ b
 
--- The order of names is strict and total: no name comes before itself, what comes before a second comes before a third, and of two names one
--- comes before the other or they are the same.
+-- The order of names is strict and total: no name comes before itself, what comes before a second comes before a third,
+-- and of two names one comes before the other or they are the same.
 pub record StrictAndTotal : Type 0 where
   pub never-itself : (a : List ℕ) → precedes a a ≡ false
   pub transitive : (a b c : List ℕ) → T (precedes a b) → T (precedes b c) → T (precedes a c)

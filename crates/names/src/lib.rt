@@ -154,8 +154,8 @@ fn filled_length(length: usize, width: usize) -> usize
     length
 }
 
-// Puts the EBCDIC of a text, padded with blanks to a width, at a place of the buffer; where it does not fit, writes nothing and answers
-// false.
+// Puts the EBCDIC of a text, padded with blanks to a width, at a place of the buffer; where it does not fit, writes
+// nothing and answers false.
 pub fn put_ebcdic(text: &[u8], width: usize, out: &mut [u8], at: usize) -> bool
     ensures { λ r. ⌜ outcome r (now (out .exit)) ≡ putAt (filled blank width (ebcdicOf (now (text .entry)))) (now (out .entry)) at ⌝ }
 {

@@ -1,5 +1,5 @@
-// The order of names, and names as they stand in a profile table: raised already. What is right is said in the crate `names`, in `specs/Order.antt` and
-// `specs/Name.antt`.
+// The order of names, and names as they stand in a profile table: raised already. What is right is said in the crate
+// `names`, in `specs/Order.antt` and `specs/Name.antt`.
 ghost use mathlib.Core.Path.{_≡_};
 ghost use Rattle.names.specs.Range.{every};
 ghost use Rattle.names.specs.Name.{isNameByte, isRaisedName};

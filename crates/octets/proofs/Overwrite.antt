@@ -1,5 +1,5 @@
--- The laws of `overwrite`: a write of nothing and of one byte, two writes one after the other, and what stands there after it.
--- Assumes nothing.
+-- The laws of `overwrite`: a write of nothing and of one byte, two writes one after the other, and what stands there
+-- after it. Assumes nothing.
 use mathlib.Core.Path.{_≡_, refl, sym, ap, _∙_}
 use mathlib.Core.List.{List, [], _∷_, _++_, append-assoc, append-nil}
 use Prim.Native.Nat.{ℕ, suc, _+_, _≤_, _<_}

@@ -1,4 +1,5 @@
--- What a function answers and leaves in the buffer that it is lent, as one value: every writer's promise is an equation of two outcomes.
+-- What a function answers and leaves in the buffer that it is lent, as one value: every writer's promise is an equation
+-- of two outcomes.
 use mathlib.Core.Path.{_≡_}
 use Prim.Native.Nat.{ℕ, _+_}
 use mathlib.Core.List.{List, _++_}

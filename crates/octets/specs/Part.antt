@@ -3,6 +3,6 @@ use Prim.Native.Nat.{ℕ}
 use mathlib.Core.List.{List}
 use lib.ListN.{take, drop}
 
--- so many bytes from a place on, or what there is of them
+-- the n bytes from a place on, or as many as there are
 unfoldable pub part : List ℕ → ℕ → ℕ → List ℕ
 part bytes at n = take n (drop at bytes)

@@ -80,8 +80,8 @@ pub fn put_decimal(n: u64, buffer: &mut [u8], at: usize) -> bool
     true
 }
 
-// Whether two lists of bytes are equal. Every byte is looked at whatever was found before it, so that the time tells nothing of where they
-// differ; the lengths are no secret.
+// Whether two lists of bytes are equal. Every byte is looked at whatever was found before it, so that the time tells
+// nothing of where they differ; the lengths are no secret.
 pub fn same(a: &[u8], b: &[u8]) -> bool
     ensures { λ r. ⌜ r ≡ same (now (a .entry)) (now (b .entry)) ⌝ }
 {

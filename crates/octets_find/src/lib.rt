@@ -21,7 +21,7 @@ fn is_among(text: &[u8], at: usize, b: u8) -> bool
     found
 }
 
-// Passes eight bytes at a time, as long as the byte is not among them: the answer is a place from which on it is still to be found.
+// Passes eight bytes at a time, as long as the byte is not among them: no `b` lies between `at` and the answer.
 fn pass_eights(text: &[u8], at: usize, b: u8) -> usize
     ensures { λ r. ⌜ r + length (upTo b (drop r (now (text .entry)))) ≡ at + length (upTo b (drop at (now (text .entry)))) ⌝ }
 {

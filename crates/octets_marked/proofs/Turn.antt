@@ -1,4 +1,5 @@
--- The laws of a turn: a copy and bytes without a mark grow by one byte, and a piece that is put leaves the rest. Assumes nothing.
+-- The laws of a turn: a copy and bytes without a mark grow by one byte, and a piece that is put leaves the rest.
+-- Assumes nothing.
 use mathlib.Core.Path.{_≡_, sym, ap, ap₂, _∙_}
 use mathlib.Core.Bool.{false, _&&_}
 use mathlib.Core.List.{List, [], _∷_, _++_, append-assoc}

@@ -12,7 +12,8 @@ unfoldable pub marked : ℕ → ℕ → ℕ → List ℕ → List ℕ
 marked mark low high [] = []
 marked mark low high (b ∷ bs) = if leb low b && leb b high then mark ∷ b ∷ marked mark low high bs else b ∷ marked mark low high bs
 
--- such bytes put at a place of a buffer, and the place after them; where they do not fit, the place itself, and the buffer is as it was
+-- such bytes put at a place of a buffer, and the place after them; where they do not fit, the place itself, and the
+-- buffer is as it was
 unfoldable pub putMarked : ℕ → ℕ → ℕ → List ℕ → List ℕ → ℕ → Outcome ℕ
 putMarked mark low high bytes buffer at =
     if leb (at + length (marked mark low high bytes)) (length buffer)

@@ -1,4 +1,5 @@
-// Texts with a mark before each byte of a range: a 255 before each 255 of a line, an ESC before each code of an environment string.
+// Texts with a mark before each byte of a range: a 255 before each 255 of a line, an ESC before each code of an
+// environment string.
 ghost use mathlib.Core.Path.{_≡_};
 ghost use mathlib.Core.Bool.{true, _&&_};
 ghost use mathlib.Core.List.{[], _∷_};
@@ -48,7 +49,8 @@ fn put_byte(b: u8, mark: u8, low: u8, high: u8, out: &mut [u8], at: usize) -> us
     at + 1
 }
 
-// Whether none of the eight bytes at a place lies in a range. Every one is looked at, so that they can be compared at once.
+// Whether none of the eight bytes at a place lies in a range. Every one is looked at, so that they can be compared at
+// once.
 fn eight_plain(bytes: &[u8], at: usize, low: u8, high: u8) -> bool
     requires { ⌜ at + 8 ≤ length (now bytes) ⌝ }
     ensures { λ r. ⌜ (r ≡ true → (mark : ℕ) → Plain mark low high (now (bytes .entry)) at 8) ⌝ }
@@ -119,8 +121,8 @@ fn put_eight(
     put_bytes(bytes, from, from + 8, mark, low, high, out, at)
 }
 
-// Puts a text at a place of the buffer, with a mark before each byte of a range; the answer is the place after it. Where it does not fit,
-// nothing is written and the answer is the place itself.
+// Puts a text at a place of the buffer, with a mark before each byte of a range; the answer is the place after it.
+// Where it does not fit, nothing is written and the answer is the place itself.
 pub fn put_marked(bytes: &[u8], mark: u8, low: u8, high: u8, out: &mut [u8], at: usize) -> usize
     ensures { λ r. ⌜ outcome r (now (out .exit)) ≡ putMarked mark low high (now (bytes .entry)) (now (out .entry)) at ⌝ }
 {

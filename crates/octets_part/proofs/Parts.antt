@@ -1,4 +1,5 @@
--- The part of a buffer that a place and a length say, as the code lends it: both ends are kept within the buffer. Assumes nothing.
+-- The part of a buffer that a place and a length say, as the code lends it: both ends are kept within the buffer.
+-- Assumes nothing.
 use mathlib.Core.Path.{_≡_, sym, _∙_}
 use mathlib.Core.Logic.{⊎-elim}
 use mathlib.Core.List.{List}

@@ -1,4 +1,5 @@
-// A part of lent bytes, and one of them, for every place and length. What is right is said in the crate `octets`, in `specs/Part.antt`.
+// A part of lent bytes, and one of them, for every place and length. What is right is said in the crate `octets`, in
+// `specs/Part.antt`.
 ghost use mathlib.Core.Path.{_≡_};
 ghost use Prim.Native.Nat.{_+_, _-_, min};
 ghost use lib.ListN.{getD};
@@ -22,7 +23,7 @@ fn part_end(length: usize, at: usize, n: usize) -> usize
     start + clipped(n, length - start)
 }
 
-// So many bytes from a place on, or what there is of them.
+// The `n` bytes from a place on, or as many as there are.
 pub fn part(bytes: &[u8], at: usize, n: usize) -> &[u8]
     ensures { λ r. ⌜ now r ≡ octets.part (now (bytes .entry)) at n ⌝ }
 {

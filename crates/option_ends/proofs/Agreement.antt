@@ -1,5 +1,5 @@
--- Demand 3 (`demand3`, the statement `Agreement.Demand3`): every list of calls leads to a pair of ends that was reached, and the weight
--- pays for each command. Assumes nothing.
+-- Demand 3 (`demand3`, the statement `Agreement.Demand3`): every list of calls leads to a pair of ends that was
+-- reached, and the weight pays for each command. Assumes nothing.
 use mathlib.Core.Path.{_≡_, refl, ap, subst⁻¹, _∙_}
 use Prim.Native.Nat.{ℕ, suc, _+_, _*_, _≤_}
 use native.Mathlib.Omega.{arith}

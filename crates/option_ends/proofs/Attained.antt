@@ -1,5 +1,5 @@
--- The bound of demand 3 is attained (`bound-attained`, the statement `Agreement.BoundAttained`): the list with every refusal in it, computed by the
--- table. Assumes nothing.
+-- The bound of demand 3 is attained (`bound-attained`, the statement `Agreement.BoundAttained`): the list with every
+-- refusal in it, computed by the table. Assumes nothing.
 use mathlib.Core.Path.{refl, subst⁻¹}
 use Rattle.option_rules.specs.declared.Side.{Side}
 use Rattle.option_rules.specs.Table.{Row, table}

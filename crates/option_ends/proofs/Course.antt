@@ -1,5 +1,5 @@
--- What follows one request for on, from two ends that are off with nothing under way: at first the command is on its way, then its answer,
--- then nothing is. Assumes nothing.
+-- What follows one request for on, from two ends that are off with nothing under way: at first the command is on its
+-- way, then its answer, then nothing is. Assumes nothing.
 use mathlib.Core.Path.{_≡_, refl, ap, _∙_}
 use Prim.Native.Nat.{ℕ, suc, _≤_}
 use native.Mathlib.Omega.{arith}

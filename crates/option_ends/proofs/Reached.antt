@@ -1,4 +1,5 @@
--- The pairs of ends that calls can lead to, found by walking from the fresh pair, and one computed test of them all. Assumes nothing.
+-- The pairs of ends that calls can lead to, found by walking from the fresh pair, and one computed test of them all.
+-- Assumes nothing.
 use mathlib.Core.Path.{_≡_, refl, sym, ap, ap₂, subst⁻¹, _∙_}
 use mathlib.Core.Logic.{_⊎_, inl, inr}
 use Prim.Native.Nat.{ℕ, zero, suc, _+_, _≤_, _<_}
@@ -65,8 +66,8 @@ walk (suc n) (t ∷ todo) seen = if member t seen then walk n todo seen else wal
 pub reached : List Ends
 reached = walk 433 (fresh ∷ []) []
 
--- The weight of an end: 2 for a request in its queue, 1 for a command on the way to it while it rests, 1 for a second command on the way.
--- A request that is not refused pays 2, and a command costs 1.
+-- The weight of an end: 2 for a request in its queue, 1 for a command on the way to it while it rests, 1 for a second
+-- command on the way. A request that is not refused pays 2, and a command costs 1.
 
 onTheWay : Side → List Command → ℕ
 onTheWay Off (c ∷ l) = 1

@@ -1,4 +1,5 @@
--- What one call does to a standing, from either end; and that a line of the code holds its commands whole. Assumes nothing.
+-- What one call does to a standing, from either end; and that a line of the code holds its commands whole. Assumes
+-- nothing.
 use mathlib.Core.Path.{_≡_, refl, ap}
 use Prim.Native.Nat.{ℕ, _+_, _-_, _≤_, _<_}
 use native.Mathlib.Nat.{add-zero}

@@ -1,5 +1,5 @@
--- A replay, byte by byte: a byte more leads from where the bytes before it led to where they lead together, and the lines have room.
--- Assumes nothing.
+-- A replay, byte by byte: a byte more leads from where the bytes before it led to where they lead together, and the
+-- lines have room. Assumes nothing.
 use mathlib.Core.Path.{_≡_, refl, sym}
 use Prim.Native.Nat.{ℕ, suc, _+_, _-_, _≤_, _<_}
 use native.Mathlib.Omega.{arith}

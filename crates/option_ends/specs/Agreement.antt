@@ -1,5 +1,5 @@
--- Demand 3, clause by clause, in the owner's words: what holds of two ends under our option rules after every list of calls; and that its bound
--- is attained. The proofs are in `proofs/Agreement.antt` and `proofs/Attained.antt`.
+-- Demand 3, clause by clause, in the owner's words: what holds of two ends under our option rules after every list of
+-- calls; and that its bound is attained. The proofs are in `proofs/Agreement.antt` and `proofs/Attained.antt`.
 use mathlib.Core.Path.{_≡_}
 use mathlib.Core.Logic.{_⊎_}
 use mathlib.Core.Bool.{Bool, true}
@@ -37,7 +37,8 @@ receiptsOfACommand rules t calls = countWhere receipt rules t calls
 abbrev pub accepted : End → (Side → Row) → Ends → List Call → Bool
 accepted e rules t calls = ltb 0 (countWhere (acceptance e) rules t calls)
 
--- After one end's request for on: `begun` is where the ends stood then, and `later` are calls since, none of them a request.
+-- After one end's request for on: `begun` is where the ends stood then, and `later` are calls since, none of them a
+-- request.
 pub record Settles (rules : Side → Row) (begun : Ends) (asker : End) (later : List Call) : Type 0 where
   -- "That takes exactly two receipts of a command": there is never a third,
   pub neverThree : receiptsOfACommand rules begun later ≤ 2
@@ -58,8 +59,8 @@ pub record Agreed (rules : Side → Row) (calls : List Call) : Type 0 where
   pub rest : Quiet (after rules fresh calls) → Both On (after rules fresh calls) ⊎ Both Off (after rules fresh calls)
   -- "All commands sent are at most twice the requests not refused."
   pub sentAtMostTwice : commandsSent rules calls ≤ 2 * requestsNotRefused rules calls
-  -- "After any list that leaves both off and nothing under way, let one end request on, with no other request until nothing is under way
-  -- again."
+  -- "After any list that leaves both off and nothing under way, let one end request on, with no other request until
+  -- nothing is under way again."
   pub oneRequest :
       Both Off (after rules fresh calls)
       → Quiet (after rules fresh calls)
@@ -71,8 +72,8 @@ pub record Agreed (rules : Side → Row) (calls : List Call) : Type 0 where
 abbrev pub Demand3 : Type 0
 Demand3 = (option : ℕ) → T (carried option) → (calls : List Call) → Agreed (rulesOf option) calls
 
--- A list with every refusal in it: near requests off (11), on, on again (12), off, which is queued, and off again (13); then what is under way is received,
--- each time accepting.
+-- A list with every refusal in it: near requests off (11), on, on again (12), off, which is queued, and off again (13);
+-- then what is under way is received, each time accepting.
 abbrev pub everyRefusal : List Call
 everyRefusal =
     (near does request off) ∷ (near does request on) ∷ (near does request on) ∷ (near does request off) ∷ (near does request off)
@@ -83,7 +84,8 @@ unfoldable pub numbersTold : (Side → Row) → Ends → List Call → List ℕ
 numbersTold rules t [] = []
 numbersTold rules t ((e does a) ∷ ks) = numberTold (callResult rules (at t e) a) ∷ numbersTold rules (move rules t (e does a)) ks
 
--- "at most twice" is attained, with refused requests in the list: four commands are sent for two requests that are not refused
+-- "at most twice" is attained, with refused requests in the list: four commands are sent for two requests that are not
+-- refused
 pub record Attained (rules : Side → Row) : Type 0 where
   pub told : numbersTold rules fresh everyRefusal ≡ 11 ∷ 0 ∷ 12 ∷ 0 ∷ 13 ∷ 0 ∷ 0 ∷ 0 ∷ 0 ∷ []
   pub sent : commandsSent rules everyRefusal ≡ 4

@@ -1,5 +1,5 @@
--- Two ends of one side of an option, each stepped by the option rules, with a line each way that keeps order and loses nothing
--- (specification, "Two ends, for demand 3"). Every count is made over the history of calls.
+-- Two ends of one side of an option, each stepped by the option rules, with a line each way that keeps order and loses
+-- nothing (specification, "Two ends, for demand 3"). Every count is made over the history of calls.
 use Prim.Native.Nat.{ℕ, zero, suc}
 use mathlib.Core.Bool.{Bool, true, false, not, _&&_, _||_}
 use mathlib.Core.List.{List, [], _∷_, _++_}
@@ -51,8 +51,8 @@ at t far = t .atFar
 abbrev pub fresh : Ends
 fresh = ends Off [] Off []
 
--- The result of a call: nothing, for a receipt with nothing on the way; a step by a request; or a step by a receipt, accepting or not, with
--- what is left on the way.
+-- The result of a call: nothing, for a receipt with nothing on the way; a step by a request; or a step by a receipt,
+-- accepting or not, with what is left on the way.
 pub data CallResult : Type 0 where
   nothing : CallResult
   requested : Step → CallResult

@@ -22,8 +22,8 @@ actOf n =
     if eqb n 2 then receive true else
     receive false
 
--- The near end's calls are 0 to 3, the far end's 4 to 7: request on, request off, receive accepting, receive declining. Any other byte is
--- no call, as a receipt on an empty line is none: it changes nothing and is not counted.
+-- The near end's calls are 0 to 3, the far end's 4 to 7: request on, request off, receive accepting, receive declining.
+-- Any other byte is no call, as a receipt on an empty line is none: it changes nothing and is not counted.
 unfoldable pub callOf : ℕ → List Call
 callOf b =
     if ltb b 4 then (near does actOf b) ∷ [] else

@@ -1,5 +1,5 @@
--- What is told of what stands at a place of the other end's line (`Theorems.HearTells`), and that a command which was put on a line is heard there
--- (`Theorems.RequestIsHeard`). Assumes nothing.
+-- What is told of what stands at a place of the other end's line (`Theorems.HearTells`), and that a command which was
+-- put on a line is heard there (`Theorems.RequestIsHeard`). Assumes nothing.
 use mathlib.Core.Path.{_≡_, refl, sym, ap, _∙_, subst, subst⁻¹}
 use mathlib.Core.Bool.{Bool}
 use mathlib.Core.List.{List, [], _∷_, _++_}

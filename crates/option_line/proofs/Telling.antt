@@ -1,4 +1,5 @@
--- What is told of a step of one side with its command at a place of a line (`Theorems.RequestTells`, `Theorems.ReceiptTells`). Assumes nothing.
+-- What is told of a step of one side with its command at a place of a line (`Theorems.RequestTells`,
+-- `Theorems.ReceiptTells`). Assumes nothing.
 use mathlib.Core.Path.{_≡_, refl, sym, ap, _∙_, subst⁻¹}
 use mathlib.Core.Bool.{Bool}
 use mathlib.Core.List.{List, [], _∷_}

@@ -1,5 +1,6 @@
--- Option commands put on the line in the call that steps the sides, so that no step is taken whose command could not be sent (the owner's demand
--- 3: "Lines keep order and lose nothing"). Refusals in the specification's order: 5 first, 4 last.
+-- Option commands put on the line in the call that steps the sides, so that no step is taken whose command could not be
+-- sent (the owner's demand 3: "Lines keep order and lose nothing"). Refusals in the specification's order: 5 first, 4
+-- last.
 use Prim.Native.Nat.{ℕ, _+_}
 use mathlib.Core.Bool.{Bool}
 use mathlib.Core.List.{List}
@@ -31,7 +32,8 @@ sent s n p = record { sides = s; number = n; place = p }
 abbrev pub commandLength : ℕ
 commandLength = 3
 
--- what the rules answered, carried out: a command goes on the line at a place; where it does not fit, sides and line are as they were
+-- what the rules answered, carried out: a command goes on the line at a place; where it does not fit, sides and line
+-- are as they were
 unfoldable pub sentBy : Sides → Answered → (line : List ℕ) (at : ℕ) → Outcome Sent
 sentBy s a line at =
     elim (a .writes) [
@@ -66,6 +68,7 @@ heardAs s End accept line at = outcome (sent s 0 at) line
 heardAs s (Found k l next) accept line at = heardEvent s k accept line at
 heardAs s (Refused n) accept line at = outcome (sent s n at) line
 
--- what stands at a place of the other end's line, heard: the reader's refusals are this one's, after 5 for the place of this end's line
+-- what stands at a place of the other end's line, heard: the reader's refusals are this one's, after 5 for the place of
+-- this end's line
 unfoldable pub heardOn : Sides → (heard : List ℕ) (from : ℕ) (accept : Bool) (line : List ℕ) (at : ℕ) → Outcome Sent
 heardOn s heard from accept line at = unlessPast s line at (heardAs s (lookAt heard from) accept line at)

@@ -1,6 +1,6 @@
--- What is proved of a step with its command on the line, over the table of the option rules (specification, "Option rules") and the bytes of the
--- line: a command that is put on a line is heard there, and which number is told, exactly. The proofs are in `proofs/Telling.antt` and
--- `proofs/Hearing.antt`.
+-- What is proved of a step with its command on the line, over the table of the option rules (specification, "Option
+-- rules") and the bytes of the line: a command that is put on a line is heard there, and which number is told, exactly.
+-- The proofs are in `proofs/Telling.antt` and `proofs/Hearing.antt`.
 use mathlib.Core.Path.{_≡_}
 use mathlib.Core.Bool.{Bool}
 use mathlib.Core.List.{List, [], _∷_}
@@ -43,8 +43,8 @@ placeAfter at (Sends c) = at + 3
 abbrev pub taken : Sides → Whose → (option : ℕ) → Step → (line : List ℕ) (at : ℕ) → Outcome Sent
 taken s w o d line at = outcome (sent (withSide s w o (d .side)) (d .number) (placeAfter at (d .sends))) (carrying line at w o (d .sends))
 
--- Where a command that `request` put on a line is heard there by the other end, which accepts or declines, the facing side of that end is stepped
--- by the table, if its own line has room for a command.
+-- Where a command that `request` put on a line is heard there by the other end, which accepts or declines, the facing
+-- side of that end is stepped by the table, if its own line has room for a command.
 abbrev pub RequestIsHeard : Type 0
 RequestIsHeard =
     (asker hearer : Sides) (w : Whose) (o : ℕ) (c d : Command) (accept : Bool) (line : List ℕ) (at : ℕ) (own : List ℕ) (place : ℕ)

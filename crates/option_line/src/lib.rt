@@ -1,5 +1,5 @@
-// Option commands put on the line in the call that steps the sides: where a command finds no room, no step is taken. What is right is said in
-// `specs/Line.antt`; the rules are in the crates `option_rules` and `option_sides`.
+// Option commands put on the line in the call that steps the sides: where a command finds no room, no step is taken.
+// What is right is said in `specs/Line.antt`; the rules are in the crates `option_rules` and `option_sides`.
 ghost use mathlib.Core.Path.{_≡_};
 ghost use Rattle.octets.specs.Lent.{outcome};
 ghost use Rattle.telnet.specs.Event.{negotiation};
@@ -72,8 +72,9 @@ fn send(sides: Sides, answered: Answered, line: &mut [u8], at: usize) -> Sent
     }
 }
 
-// WILL, WONT, DO or DONT was received, with its option byte; on is accepted or declined where that is open. The answer goes on the line at a
-// place. A place past the end is 5, and an answer that does not fit 4: then sides and line are as they were.
+// WILL, WONT, DO or DONT was received, with its option byte; on is accepted or declined where that is open. The answer
+// goes on the line at a place. A place past the end is 5, and an answer that does not fit 4: then sides and line are as
+// they were.
 pub fn receive(
     sides: Sides,
     verb: Verb,
@@ -129,8 +130,8 @@ fn hear_event(sides: Sides, kind: Kind, accept: bool, line: &mut [u8], at: usize
     }
 }
 
-// This end hears what stands at a place of the other's line, and answers it on its own line if it is an option command. A place past the end of
-// either line is 5; what cannot be read is refused by the reader's number.
+// This end hears what stands at a place of the other's line, and answers it on its own line if it is an option command.
+// A place past the end of either line is 5; what cannot be read is refused by the reader's number.
 pub fn hear(
     sides: Sides,
     heard: &[u8],

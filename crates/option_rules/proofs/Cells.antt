@@ -1,4 +1,5 @@
--- What a step by the rules tells: 0, the note 14, or a refusal of 10 to 13, and a refusal leaves the side and sends nothing. Assumes nothing.
+-- What a step by the rules tells: 0, the note 14, or a refusal of 10 to 13, and a refusal leaves the side and sends
+-- nothing. Assumes nothing.
 use mathlib.Core.Path.{_≡_, refl}
 use mathlib.Core.Bool.{Bool, true, false}
 use mathlib.Core.Logic.{_⊎_, inl, inr}

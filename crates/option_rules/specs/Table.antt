@@ -1,5 +1,6 @@
--- The option rules as a table: a row for each state, a column for each call (specification, "Option rules"; RFC 1143, "The Q Method", where
--- the states are NO, YES, WANTNO with an empty or an opposite queue, and WANTYES with an empty or an opposite queue).
+-- The option rules as a table: a row for each state, a column for each call (specification, "Option rules"; RFC 1143,
+-- "The Q Method", where the states are NO, YES, WANTNO with an empty or an opposite queue, and WANTYES with an empty or
+-- an opposite queue).
 use Prim.Native.Nat.{ℕ}
 use mathlib.Core.Bool.{Bool, true, false}
 use lib.Dec.{eqb}
@@ -39,7 +40,8 @@ pub record Row : Type 0 where
 abbrev pub row : (Bool → Cell) → Cell → Cell → Cell → Row
 row a b c d = record { receiveOn = a; receiveOff = b; requestOn = c; requestOff = d }
 
--- For an option that is carried: the specification's table, row by row. alreadySo is 11, underWay 12, alreadyQueued 13, offAnsweredByOn 14.
+-- For an option that is carried: the specification's table, row by row. alreadySo is 11, underWay 12, alreadyQueued 13,
+-- offAnsweredByOn 14.
 abbrev pub table : Side → Row
 -- | State | receive on | receive off | request on | request off |
 -- | Off | accept: On, send on; decline: Off, send off | Off | WantOn, send on | 11 |
@@ -55,7 +57,8 @@ table WantOn = row (both (to On)) (to Off) (refuse underWay) (to WantOnThenOff)
 -- | WantOnThenOff | WantOff, send off | Off | WantOn | 13 |
 table WantOnThenOff = row (both (WantOff send off)) (to Off) (to WantOn) (refuse alreadyQueued)
 
--- For one that is not: "on is answered off, off is answered by silence, and its state is always off"; a request is refused with 10.
+-- For one that is not: "on is answered off, off is answered by silence, and its state is always off"; a request is
+-- refused with 10.
 abbrev pub untouched : Side → Row
 untouched s = row (both (Off send off)) (to Off) (refuse notCarried) (refuse notCarried)
 

@@ -1,5 +1,5 @@
-// The option rules: one side of one option by value. What is right is said in `specs/Table.antt`. The ten sides of a session are in the
-// crate `option_sides`; what two such ends do to each other is said in the crate `option_ends`.
+// The option rules: one side of one option by value. What is right is said in `specs/Table.antt`. The ten sides of a
+// session are in the crate `option_sides`; what two such ends do to each other is said in the crate `option_ends`.
 ghost use mathlib.Core.Path.{_≡_};
 ghost use Rattle.option_rules.specs.Table.{stepBy, rulesOf, onReceive, onRequest};
 ghost use Rattle.option_rules.specs.Table as table;

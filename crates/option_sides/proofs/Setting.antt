@@ -1,5 +1,5 @@
--- Setting one of the ten sides sets that one alone (`sets-one`, the statement `Session.SetsOne`), and what one end says of a side the other
--- hears of it (`heard-as-said`, `Verbs.HeardAsSaid`). Assumes nothing.
+-- Setting one of the ten sides sets that one alone (`sets-one`, the statement `Session.SetsOne`), and what one end says
+-- of a side the other hears of it (`heard-as-said`, `Verbs.HeardAsSaid`). Assumes nothing.
 use mathlib.Core.Path.{_≡_, refl, sym, ap, _∙_}
 use Prim.Native.Nat.{ℕ}
 use mathlib.Core.Bool.{Bool, true, false, not}

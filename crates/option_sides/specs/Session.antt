@@ -1,5 +1,5 @@
--- The ten sides of a session, two for each option that is carried (specification, "Option rules"). A call steps one of them by its rules;
--- an option that is not carried has no side here: its state is always off.
+-- The ten sides of a session, two for each option that is carried (specification, "Option rules"). A call steps one of
+-- them by its rules; an option that is not carried has no side here: its state is always off.
 use mathlib.Core.Path.{_≡_}
 use Prim.Native.Nat.{ℕ}
 use mathlib.Core.Bool.{Bool, not}
@@ -68,7 +68,8 @@ received s v o accept = let w = toldBy v .whose in answeredBy s w o (onReceive (
 abbrev pub requested : Sides → Whose → ℕ → Command → Answered
 requested s w o c = answeredBy s w o (onRequest (rulesOf o) (sideAt s w o) c)
 
--- Setting one side: it is so at that option and side, every other side is unchanged, and an option that is not carried touches none.
+-- Setting one side: it is so at that option and side, every other side is unchanged, and an option that is not carried
+-- touches none.
 pub record Sets (s : Sides) (w : Whose) (o : ℕ) (x : Side) : Type 0 where
   pub here : T (carried o) → sideAt (withSide s w o x) w o ≡ x
   pub elsewhere : (v : Whose) (p : ℕ) → ((v ≡ w) × (p ≡ o) → ⊥) → sideAt (withSide s w o x) v p ≡ sideAt s v p

@@ -1,5 +1,6 @@
--- "On" and "off" as the option commands of the line: "On means WILL or DO and off WONT or DONT, as the side has it" (specification, "Option
--- rules"). Who sends WILL or WONT speaks of his own side, who sends DO or DONT of the other's (RFC 854, "TELNET COMMAND STRUCTURE").
+-- "On" and "off" as the option commands of the line: "On means WILL or DO and off WONT or DONT, as the side has it"
+-- (specification, "Option rules"). Who sends WILL or WONT speaks of his own side, who sends DO or DONT of the other's
+-- (RFC 854, "TELNET COMMAND STRUCTURE").
 use mathlib.Core.Path.{_≡_}
 use Prim.Native.Nat.{ℕ}
 use Rattle.telnet.specs.declared.Verb.{Verb}

@@ -1,5 +1,5 @@
-// The ten sides of a session, and what they say as the option commands of the line. What is right is said in `specs/`: start with
-// `Verbs.antt` and `Session.antt`. The rules that step a side are in the crate `option_rules`.
+// The ten sides of a session, and what they say as the option commands of the line. What is right is said in `specs/`:
+// start with `Verbs.antt` and `Session.antt`. The rules that step a side are in the crate `option_rules`.
 mod session;
 mod verbs;
 

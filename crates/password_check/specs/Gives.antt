@@ -1,5 +1,6 @@
--- Whether what a client offers is what a stored token gives (specification, "Tokens, substitutes, verdicts", "Verdict", its two rules). Names and clear
--- passwords are ASCII bytes; tokens, seeds and substitutes are lists of bytes, and one of another length than its own gives nothing.
+-- Whether what a client offers is what a stored token gives (specification, "Tokens, substitutes, verdicts", "Verdict",
+-- its two rules). Names and clear passwords are ASCII bytes; tokens, seeds and substitutes are lists of bytes, and one
+-- of another length than its own gives nothing.
 use Prim.Native.Nat.{ℕ}
 use mathlib.Core.Bool.{Bool, _&&_}
 use mathlib.Core.List.{List}

@@ -1,5 +1,5 @@
-// Whether what a client offers is what a stored token gives. No token is handed out: a refused hash is twenty zeros, and zeros may be stored. What is right
-// is said in `specs/Gives.antt`.
+// Whether what a client offers is what a stored token gives. No token is handed out: a refused hash is twenty zeros,
+// and zeros may be stored. What is right is said in `specs/Gives.antt`.
 ghost use mathlib.Core.Path.{_≡_};
 ghost use Rattle.password_check.specs.Gives.{givesClear, areSeeds, givesDes, givesSha};
 use password_des::Block;

@@ -1,4 +1,5 @@
--- PW-TOKEN of a password with one key and of one with two, and PW-SUB from the identifier padded to sixteen bytes. Assumes nothing.
+-- PW-TOKEN of a password with one key and of one with two, and PW-SUB from the identifier padded to sixteen bytes.
+-- Assumes nothing.
 use mathlib.Core.Path.{_≡_, ap, _∙_}
 use mathlib.Core.List.{List}
 use Prim.Native.Nat.{ℕ, _-_, _≤_, _<_}

@@ -1,4 +1,4 @@
--- What the functions of this crate promise: a token or a substitute, or the refusal of a bad profile name, and after that of a bad
+-- A token or a substitute, or the refusal of a bad profile name, and after that of a bad
 -- password. Names and passwords are given in ASCII, seeds as numbers of eight bytes.
 use mathlib.Core.Bool.{not}
 use mathlib.Core.List.{List}

@@ -1,6 +1,6 @@
--- DES password substitutes: RFC 4777, section 5.1, in its own names (with - for _) and the order of its steps. Passwords and user
--- identifiers are lists of EBCDIC bytes, raised; a block of eight bytes is one number, its first byte the highest, as in the crate `des`,
--- which has the cipher; steps 2 and 3 are in `des_schedule`.
+-- DES password substitutes: RFC 4777, section 5.1, in its own names (with - for _) and the order of its steps.
+-- Passwords and user identifiers are lists of EBCDIC bytes, raised; a block of eight bytes is one number, its first
+-- byte the highest, as in the crate `des`, which has the cipher; steps 2 and 3 are in `des_schedule`.
 use Prim.Native.Nat.{ℕ, _+_, _-_, _*_, _/_, _%_, _^_}
 use mathlib.Core.List.{List, [], _∷_, map}
 use lib.Bits.{bitXor}
@@ -32,7 +32,8 @@ byte ID i = getD ID (i - 1) 0
 abbrev pub pair : ℕ → ℕ → ℕ
 pair b j = b / 2 ^ (6 - 2 * j) % 4
 
--- 4) byte i of a folded identifier of ten bytes: its bits 0 and 1 are XORed with a pair of byte 9 (bytes 1 to 4) or byte 10 (bytes 5 to 8)
+-- 4) byte i of a folded identifier of ten bytes: its bits 0 and 1 are XORed with a pair of byte 9 (bytes 1 to 4) or
+-- byte 10 (bytes 5 to 8)
 abbrev pub foldedByte : List ℕ → ℕ → ℕ
 foldedByte ID i = bitXor (byte ID i) (pair (byte ID (9 + (i - 1) / 4)) ((i - 1) % 4) * 2 ^ 6)
 

@@ -1,5 +1,5 @@
-// Password tokens and substitutes by DES (RFC 4777, section 5.1). A block of eight bytes is a number, its first byte the highest. What is right is
-// said in `specs/`: `Des.antt` has the section's steps, `Answer.antt` the refusals.
+// Password tokens and substitutes by DES (RFC 4777, section 5.1). A block of eight bytes is a number, its first byte
+// the highest. What is right is said in `specs/`: `Des.antt` has the section's steps, `Answer.antt` the refusals.
 ghost use mathlib.Core.Path.{_≡_};
 ghost use Prim.Native.Nat.{_*_, _≤_, _<_};
 ghost use lib.ListN.{length, take};

@@ -1,4 +1,5 @@
--- How long good names and passwords are, and a profile name as the crate `names` holds it, put over ten blanks. Assumes nothing.
+-- How long good names and passwords are, and a profile name as the crate `names` holds it, put over ten blanks. Assumes
+-- nothing.
 use mathlib.Core.Path.{_≡_, ap, _∙_}
 use mathlib.Core.Bool.{true, _&&_, and-eq-true-iff}
 use mathlib.Core.List.{List}

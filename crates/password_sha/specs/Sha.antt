@@ -1,4 +1,5 @@
--- SHA password substitutes: RFC 4777, section 5.2, in its own names (with - for _). User identifiers and passwords are lists of ASCII bytes.
+-- SHA password substitutes: RFC 4777, section 5.2, in its own names (with - for _). User identifiers and passwords are
+-- lists of ASCII bytes.
 use mathlib.Core.Bool.{Bool, _&&_}
 use mathlib.Core.List.{List, [], _∷_, _++_}
 use Prim.Native.Nat.{ℕ}

@@ -1,5 +1,5 @@
-// Password tokens and substitutes by SHA-1 (RFC 4777, section 5.2). What is right is said in `specs/`: `Sha.antt` has the section's steps,
-// `Answer.antt` the refusals.
+// Password tokens and substitutes by SHA-1 (RFC 4777, section 5.2). What is right is said in `specs/`: `Sha.antt` has
+// the section's steps, `Answer.antt` the refusals.
 ghost use mathlib.Core.Bool.{true};
 ghost use mathlib.Core.Path.{_≡_};
 ghost use Prim.Native.Nat.{_+_, _*_, _≤_};

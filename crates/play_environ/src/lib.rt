@@ -1,5 +1,6 @@
-// The second part of a printer session: the host asks for the environment, and the printer sends it, each in a subnegotiation of NEW-ENVIRON. What passes the
-// lines is said in `specs/Environment.antt`. What is said of it goes to standard output, of which no contract speaks.
+// The second part of a printer session: the host asks for the environment, and the printer sends it, each in a
+// subnegotiation of NEW-ENVIRON. What passes the lines is said in `specs/Environment.antt`. What is said of it goes to
+// standard output, of which no contract speaks.
 ghost use mathlib.Core.Path.{_≡_};
 ghost use Rattle.octets.specs.Lent.{outcome};
 ghost use Rattle.show_event.specs.Sent.{sentAt};
@@ -14,7 +15,8 @@ const ESC: u8 = 2;
 
 const USERVAR: u8 = 3;
 
-// The request for all variables, with the server's seed after the name IBMRSEED. A seed is random: without its ESCs one of nine would end the name.
+// The request for all variables, with the server's seed after the name IBMRSEED. A seed is random: without its ESCs one
+// of nine would end the name.
 fn send_request() -> [u8; 24]
     ensures { λ r. ⌜ r ≡ request ⌝ }
 {
@@ -39,7 +41,8 @@ pub fn ask(down: &mut [u8], at: usize) -> usize
     end
 }
 
-// The printer's variables as a payload. They are given to the writer by their kinds and the places and lengths of names and values.
+// The printer's variables as a payload. They are given to the writer by their kinds and the places and lengths of names
+// and values.
 fn payload() -> [u8; 69]
     ensures { λ r. ⌜ r ≡ environment ⌝ }
 {

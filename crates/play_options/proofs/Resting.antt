@@ -1,4 +1,5 @@
--- What both ends send, computed: the host's requests, the printer's answers, and that the host then has all of it on and says no more. Assumes nothing.
+-- What both ends send, computed: the host's requests, the printer's answers, and that the host then has all of it on
+-- and says no more. Assumes nothing.
 use mathlib.Core.Path.{_≡_, refl, ap, ap₂, _∙_}
 use mathlib.Core.Bool.{Bool, true}
 use mathlib.Core.List.{List}

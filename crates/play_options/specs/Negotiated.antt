@@ -1,6 +1,7 @@
--- What passes the lines of a printer session until its options rest on: the host asks, the printer answers, in the order of RFC 4777, section 10's exchange between
--- server and client. "Both the client and server must agree to support at least the Transmit-Binary, End-Of-Record, and Terminal-Type Telnet options" (section 9);
--- NEW-ENVIRON comes first (section 3).
+-- What passes the lines of a printer session until its options rest on: the host asks, the printer answers, in the
+-- order of RFC 4777, section 10's exchange between server and client. "Both the client and server must agree to support
+-- at least the Transmit-Binary, End-Of-Record, and Terminal-Type Telnet options" (section 9); NEW-ENVIRON comes first
+-- (section 3).
 use mathlib.Core.Path.{_≡_}
 use Prim.Native.Nat.{ℕ}
 use mathlib.Core.Bool.{Bool, true, _&&_}

@@ -1,5 +1,6 @@
-// The first part of a printer session: option commands both ways, until NEW-ENVIRON, TERMINAL-TYPE, END-OF-RECORD and BINARY rest on. The host asks, the
-// printer answers. What passes the lines is said in `specs/Negotiated.antt`. What is said of it goes to standard output, of which no contract speaks.
+// The first part of a printer session: option commands both ways, until NEW-ENVIRON, TERMINAL-TYPE, END-OF-RECORD and
+// BINARY rest on. The host asks, the printer answers. What passes the lines is said in `specs/Negotiated.antt`. What is
+// said of it goes to standard output, of which no contract speaks.
 ghost use mathlib.Core.Path.{_≡_};
 ghost use Rattle.octets.specs.Lent.{outcome};
 ghost use Rattle.option_line.specs.Line.{sent};
@@ -133,7 +134,8 @@ fn exchange() -> Commands
     }
 }
 
-// The commands of both ends at the front of their lines. The answer is whether the options rest on; where a line has no room, both are as they were.
+// The commands of both ends at the front of their lines. The answer is whether the options rest on; where a line has no
+// room, both are as they were.
 pub fn negotiate(down: &mut [u8], up: &mut [u8]) -> bool
     ensures { λ r. ⌜ Negotiated (now (down .entry)) (now (up .entry)) r (now (down .exit)) (now (up .exit)) ⌝ }
 {

@@ -1,5 +1,6 @@
-// The last part of a printer session: a print record in two runs with an option command between, the ledger, and print complete back. What passes the lines is
-// said in `specs/Order.antt`. What is said of it goes to standard output, of which no contract speaks.
+// The last part of a printer session: a print record in two runs with an option command between, the ledger, and print
+// complete back. What passes the lines is said in `specs/Order.antt`. What is said of it goes to standard output, of
+// which no contract speaks.
 ghost use mathlib.Core.Path.{_≡_};
 ghost use Rattle.octets.specs.Lent.{outcome};
 ghost use Rattle.show_event.specs.Sent.{sentAll};
@@ -20,8 +21,9 @@ fn say(words: &[u8]) {
     io::write_all(1, words);
 }
 
-// The host sends the order: the first run is a print frame, the last of its chain, whose length says that more is to come; DO TIMING-MARK, which no one here
-// carries; and the second run, in which a byte 255 is data. The answer is the place of the option command.
+// The host sends the order: the first run is a print frame, the last of its chain, whose length says that more is to
+// come; DO TIMING-MARK, which no one here carries; and the second run, in which a byte 255 is data. The answer is the
+// place of the option command.
 fn print(down: &mut [u8], at: usize) -> usize
     ensures { λ r. ⌜ outcome r (now (down .exit)) ≡ ordered (now (down .entry)) at ⌝ }
 {
@@ -74,8 +76,8 @@ fn take(down: &[u8], at: usize) -> Ledger
     taken.ledger
 }
 
-// The printer answers the option command at a place. An option that is not carried has no side: fresh sides answer it as any others would. The answer is the
-// place after what it sends.
+// The printer answers the option command at a place. An option that is not carried has no side: fresh sides answer it
+// as any others would. The answer is the place after what it sends.
 fn reply(down: &[u8], from: usize, up: &mut [u8], at: usize) -> usize
     ensures { λ r. ⌜ outcome r (now (up .exit)) ≡ replied (now (down .entry)) from (now (up .entry)) at ⌝ }
 {
@@ -123,7 +125,8 @@ fn complete(ledger: Ledger, up: &mut [u8], at: usize) -> usize
     }
 }
 
-// The order is sent, taken, and heard back, on both lines from a place of each on. The answer is the place after what the printer sends.
+// The order is sent, taken, and heard back, on both lines from a place of each on. The answer is the place after what
+// the printer sends.
 pub fn play(down: &mut [u8], down_at: usize, up: &mut [u8], up_at: usize) -> usize
     ensures { λ r. ⌜ Played (now (down .entry)) «down_at» (now (up .entry)) «up_at» r (now (down .exit)) (now (up .exit)) ⌝ }
 {

@@ -1,5 +1,5 @@
-// The fourth part of a printer session: the start-up response record. What passes the line is said in `specs/Responded.antt`. What is said of it goes to standard
-// output, of which no contract speaks.
+// The fourth part of a printer session: the start-up response record. What passes the line is said in
+// `specs/Responded.antt`. What is said of it goes to standard output, of which no contract speaks.
 ghost use mathlib.Core.Path.{_≡_};
 ghost use mathlib.Core.Bool.{false};
 ghost use Rattle.octets.specs.Lent.{outcome};

@@ -1,5 +1,6 @@
-// The third part of a printer session: the host's verdict on what the printer told. What is right is said in `specs/Judged.antt` and in the crate `signon`. What
-// is said of it goes to standard output, of which no contract speaks.
+// The third part of a printer session: the host's verdict on what the printer told. What is right is said in
+// `specs/Judged.antt` and in the crate `signon`. What is said of it goes to standard output, of which no contract
+// speaks.
 ghost use mathlib.Core.Path.{_≡_};
 ghost use Rattle.signon.specs.Verdict.{answerOf};
 ghost use Rattle.play.specs.Seed.{serverSeed};

@@ -1,5 +1,5 @@
--- Printer pass-through frames (RFC 4777, section 11, figure 3; specification, "Printer frames"). A frame is a list of bytes. Bytes and bits
--- are numbered as there, from 0, and bit 0 of a byte is its high bit.
+-- Printer pass-through frames (RFC 4777, section 11, figure 3; specification, "Printer frames"). A frame is a list of
+-- bytes. Bytes and bits are numbered as there, from 0, and bit 0 of a byte is its high bit.
 use Prim.Native.Nat.{ℕ, _+_, _-_, _*_, _/_, _%_, _^_}
 use mathlib.Core.Bool.{Bool, true, false, not, _||_}
 use mathlib.Core.List.{List}
@@ -41,8 +41,8 @@ identifier f = numberAt f 2
 abbrev pub dataFlow : List ℕ → ℕ
 dataFlow f = numberAt f 4
 
--- The data flow of a printer record (bit 7) in each direction, server-originated (outbound, bit 15) or client-originated (inbound, bit 14),
--- without and with diagnostic information (bit 3).
+-- The data flow of a printer record (bit 7) in each direction, server-originated (outbound, bit 15) or
+-- client-originated (inbound, bit 14), without and with diagnostic information (bit 3).
 abbrev pub flow : Direction → Bool → ℕ
 flow Outbound false = 0x0101
 flow Inbound false = 0x0102
@@ -96,7 +96,8 @@ isOperation b = eqb b (operationCode Print) || eqb b (operationCode Clear)
 unfoldable pub operationOf : ℕ → Operation
 operationOf b = if eqb b (operationCode Print) then Print else Clear
 
--- where the data starts: LL counts from its own byte, which is byte 6 ("the print data will start in byte LL+1", counted from there as 1)
+-- where the data starts: LL counts from its own byte, which is byte 6 ("the print data will start in byte LL+1",
+-- counted from there as 1)
 abbrev pub dataPlace : List ℕ → ℕ
 dataPlace f = 6 + headerLength f
 

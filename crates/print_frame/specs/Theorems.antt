@@ -1,5 +1,5 @@
--- What is proved of frames: each refusal is given exactly where its sentence in the specification's table holds and none before it does. The proofs are in
--- `proofs/Limits.antt` and `proofs/Sentences.antt`.
+-- What is proved of frames: each refusal is given exactly where its sentence in the specification's table holds and
+-- none before it does. The proofs are in `proofs/Limits.antt` and `proofs/Sentences.antt`.
 use mathlib.Core.Path.{_≡_}
 use mathlib.Core.List.{List}
 use mathlib.Core.Logic.{_↔_, _⊎_}
@@ -29,7 +29,8 @@ numberOf headerLength = 43
 numberOf reservedFlag = 44
 numberOf operation = 45
 
--- the sentence of each number in "Refusal numbers"; the reserved flags are those of "Printer frames", "07X of the first flag byte, all of the second"
+-- the sentence of each number in "Refusal numbers"; the reserved flags are those of "Printer frames", "07X of the first
+-- flag byte, all of the second"
 abbrev pub Sentence : (f : List ℕ) → Fault → Type 0
 -- "frame under 10 bytes, or LLLL not its length"
 Sentence f frameLength = (length f < 10) ⊎ (LLLL f ≡ length f → ⊥)
@@ -61,7 +62,8 @@ pub record Judged (f : List ℕ) : Type 0 where
   pub refused : (k : Fault) → (frameOf f ≡ Refused (numberOf k)) ↔ (Sentence f k × NoneBefore f k)
   pub isRead : IsRead f ↔ NoFault f
 
--- A frame is refused by a number exactly where its sentence holds and none before it does, and read exactly where none holds.
+-- A frame is refused by a number exactly where its sentence holds and none before it does, and read exactly where none
+-- holds.
 abbrev pub FrameIsItsSentence : Type 0
 FrameIsItsSentence = (f : List ℕ) → Bytes f → Judged f
 

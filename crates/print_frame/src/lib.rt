@@ -183,7 +183,8 @@ fn read_header(frame: &[u8]) -> FrameAnswer
     FrameAnswer::Read(fields(frame))
 }
 
-// The frame, or the first of 40 to 45 that applies. Nothing is copied: diagnostic bytes and data are given by their places.
+// The frame, or the first of 40 to 45 that applies. Nothing is copied: diagnostic bytes and data are given by their
+// places.
 pub fn read_frame(frame: &[u8]) -> FrameAnswer
     ensures { λ r. ⌜ r ≡ frameOf (now (frame .entry)) ⌝ }
 {

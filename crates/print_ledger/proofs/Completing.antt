@@ -1,4 +1,5 @@
--- A completion while one is held is `octets::put` of the print complete record, and what its answer makes of the ledger. Assumes nothing.
+-- A completion while one is held is `octets::put` of the print complete record, and what its answer makes of the
+-- ledger. Assumes nothing.
 use mathlib.Core.Path.{_≡_}
 use mathlib.Core.Bool.{Bool, true, false, not}
 use mathlib.Core.Logic.{⊎-elim}

@@ -1,5 +1,5 @@
--- Every list of calls from fresh is heard back as `Theorems.HeardBack` says, by induction on the list: each call keeps the balance of what
--- was accepted with what was completed, cleared and is held. Assumes nothing.
+-- Every list of calls from fresh is heard back as `Theorems.HeardBack` says, by induction on the list: each call keeps
+-- the balance of what was accepted with what was completed, cleared and is held. Assumes nothing.
 use mathlib.Core.Path.{_≡_, refl}
 use mathlib.Core.Bool.{Bool, true, false, not, _&&_}
 use mathlib.Core.Logic.{_↔_}

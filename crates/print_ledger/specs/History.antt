@@ -1,6 +1,6 @@
--- The history of a ledger: any calls of it, one after the other, each on what the one before handed back. What is counted is counted from
--- the list of calls (specification, "Printer frames"): what a call asks is read from its bytes, and whether it is refused from its answer.
--- `Theorems.antt` says what holds of every history.
+-- The history of a ledger: any calls of it, one after the other, each on what the one before handed back. What is
+-- counted is counted from the list of calls (specification, "Printer frames"): what a call asks is read from its bytes,
+-- and whether it is refused from its answer. `Theorems.antt` says what holds of every history.
 use Prim.Native.Nat.{ℕ, _+_}
 use mathlib.Core.Bool.{Bool, true, false, not, _&&_}
 use mathlib.Core.List.{List, [], _∷_}

@@ -1,5 +1,5 @@
--- The print ledger (specification, "Printer frames"). "Ledger" is the specification's own term, and so is "record" for what it holds: the
--- print record of RFC 4777, section 11.1. The ledger keeps that one is held, not its bytes.
+-- The print ledger (specification, "Printer frames"). "Ledger" is the specification's own term, and so is "record" for
+-- what it holds: the print record of RFC 4777, section 11.1. The ledger keeps that one is held, not its bytes.
 use Prim.Native.Nat.{ℕ}
 use mathlib.Core.Bool.{true, false, not}
 use mathlib.Core.List.{List, [], _∷_}

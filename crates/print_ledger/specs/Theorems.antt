@@ -1,5 +1,5 @@
--- What holds of every history of a ledger from fresh, and of the print complete record: on the line, and as a frame. The proofs are in
--- `proofs/HeardBack.antt` and `proofs/OnTheLine.antt`.
+-- What holds of every history of a ledger from fresh, and of the print complete record: on the line, and as a frame.
+-- The proofs are in `proofs/HeardBack.antt` and `proofs/OnTheLine.antt`.
 use mathlib.Core.Path.{_≡_}
 use mathlib.Core.Bool.{false, not}
 use mathlib.Core.Logic.{_↔_}
@@ -20,8 +20,8 @@ use Rattle.telnet.specs.Record.{recordOf, complete}
 use Rattle.octets.specs.Choice.{if_then_else_}
 use Rattle.octets.specs.Lent.{overwrite}
 
--- What is heard back after some calls, refused ones among them, and what the next call does. It is said of every list of calls, and so at
--- every point of a history.
+-- What is heard back after some calls, refused ones among them, and what the next call does. It is said of every list
+-- of calls, and so at every point of a history.
 pub record HeardBack (ks : List Call) : Type 0 where
   -- "accepted prints equal completions plus records cleared plus the one held, each counted from the history of calls"
   pub total : acceptedPrints ks ≡ completions ks + recordsCleared ks + held (run fresh ks)
@@ -43,7 +43,8 @@ pub record HeardBack (ks : List Call) : Type 0 where
   -- "a print frame when idle is held": an outbound print is accepted where nothing is held, and then one is held
   pub print-held : (f : List ℕ)
       → T (isPrint f) → held (run fresh ks) ≡ 0 → T (accepts (run fresh ks) (frame f)) × (held (after (run fresh ks) (frame f)) ≡ 1)
-  -- "a clear empties it, idle or not": an outbound clear is not refused, and nothing is held after it, whatever was held
+  -- "a clear empties it, idle or not": an outbound clear is not refused, and nothing is held after it, whatever was
+  -- held
   pub clear-empties : (f : List ℕ)
       → T (isClear f) → T (not (refusedCall (run fresh ks) (frame f))) × (held (after (run fresh ks) (frame f)) ≡ 0)
   -- where nothing is held, no call but an outbound print makes the ledger hold a record
@@ -54,13 +55,14 @@ pub record HeardBack (ks : List Call) : Type 0 where
 abbrev pub PrintsAreHeardBack : Type 0
 PrintsAreHeardBack = (ks : List Call) → HeardBack ks
 
--- Print complete goes through framing undamaged: the ten bytes written as a run and an end-of-record are read back as one record equal to
--- them, 12 bytes long on the line. `telnet` says the like of any record, `Theorems.RecordReadsBack`.
+-- Print complete goes through framing undamaged: the ten bytes written as a run and an end-of-record are read back as
+-- one record equal to them, 12 bytes long on the line. `telnet` says the like of any record,
+-- `Theorems.RecordReadsBack`.
 abbrev pub PrintCompleteReadsBack : Type 0
 PrintCompleteReadsBack = (bs : List ℕ) → recordOf (writtenAll (dataRun printComplete ∷ command eor ∷ []) ++ bs) ≡ complete printComplete 12
 
--- Print complete is a good frame from the client (RFC 4777, figures 3 and 5): '01'X "Print/Print complete", with no flag set and neither
--- diagnostic bytes nor data.
+-- Print complete is a good frame from the client (RFC 4777, figures 3 and 5): '01'X "Print/Print complete", with no
+-- flag set and neither diagnostic bytes nor data.
 abbrev pub PrintCompleteIsAFrame : Type 0
 PrintCompleteIsAFrame = frameOf printComplete ≡ Read (record {
   direction = Inbound;

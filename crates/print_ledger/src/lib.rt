@@ -1,5 +1,5 @@
-// The ledger that holds one print record until the device has printed it. What is right is said in `specs/`: `Ledger.antt`, then `History.antt`
-// and `Theorems.antt`.
+// The ledger that holds one print record until the device has printed it. What is right is said in `specs/`:
+// `Ledger.antt`, then `History.antt` and `Theorems.antt`.
 ghost use mathlib.Core.Path.{_≡_};
 ghost use Rattle.print_ledger.specs.Ledger.{fresh, afterFrame, printed, cleared, taken, takeFrame, afterCompletion, completeInto};
 ghost use Rattle.octets.specs.Lent.{outcome};
@@ -13,7 +13,8 @@ pub struct Ledger {
     pub held: bool,
 }
 
-// What became of a frame that the ledger was given: its record is held, a clear found a record held or none, or a refusal.
+// What became of a frame that the ledger was given: its record is held, a clear found a record held or none, or a
+// refusal.
 pub enum Receipt {
     Held,
     Cleared,
@@ -109,7 +110,8 @@ impl Ledger {
         }
     }
 
-    // The device has printed what is held: the print complete record goes to the front of the output, and the ledger is idle.
+    // The device has printed what is held: the print complete record goes to the front of the output, and the ledger is
+    // idle.
     pub fn complete(self, out: &mut [u8]) -> Completed
         ensures { λ r. ⌜ outcome r (now (out .exit)) ≡ completeInto self (now (out .entry)) ⌝ }
     {

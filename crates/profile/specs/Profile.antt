@@ -1,5 +1,6 @@
--- A profile and its record (specification, "Tokens, substitutes, verdicts", "Profile table"): "a two-byte big-endian length of what follows (30 + n), flags
--- (01X enabled, 02X DES allowed, others 0), n from 1 to 10, the raised name in ASCII, 8-byte DES token, 20-byte SHA-1 token".
+-- A profile and its record (specification, "Tokens, substitutes, verdicts", "Profile table"): "a two-byte big-endian
+-- length of what follows (30 + n), flags (01X enabled, 02X DES allowed, others 0), n from 1 to 10, the raised name in
+-- ASCII, 8-byte DES token, 20-byte SHA-1 token".
 use Prim.Native.Nat.{ℕ, zero, suc, _+_, _*_, _/_, _%_}
 use mathlib.Core.Bool.{Bool, false}
 use mathlib.Core.List.{List, [], _∷_, _++_}
@@ -8,7 +9,8 @@ use lib.ListN.{length, getD, take, drop}
 use Rattle.words.specs.BigEndian.{bytes}
 use Rattle.octets.specs.Choice.{if_then_else_}
 
--- What a version of the table says of a record: how many of the flags are used, from the lowest on, and how long each token is.
+-- What a version of the table says of a record: how many of the flags are used, from the lowest on, and how long each
+-- token is.
 pub record Shape : Type 0 where
   pub marks : ℕ
   pub tokens : List ℕ

@@ -1,5 +1,5 @@
--- The profile table: "one version byte 1, then records", their names strictly ascending, at most 500 (specification, "Profile table" and "Refusal
--- numbers" 30 to 32: 30 by the first byte alone, then record by record 31 before 32).
+-- The profile table: "one version byte 1, then records", their names strictly ascending, at most 500 (specification,
+-- "Profile table" and "Refusal numbers" 30 to 32: 30 by the first byte alone, then record by record 31 before 32).
 use Prim.Native.Nat.{ℕ, zero, suc, _+_, _^_}
 use mathlib.Core.Bool.{Bool, _&&_}
 use mathlib.Core.List.{List, [], _∷_, _++_}
@@ -16,7 +16,7 @@ use Rattle.profile.specs.Profile.{Shape, version1, Profile, marksOf, tok
 abbrev pub tableVersion : ℕ
 tableVersion = 1
 
--- a table has at most so many profiles
+-- how many profiles a table has at most
 abbrev pub profileCount : ℕ
 profileCount = 500
 
@@ -38,7 +38,8 @@ profileAt s bs = record {
   tokens = tokensOf (s .tokens) (drop (4 + nameLengthAt bs) bs);
 }
 
--- a well-formed record stands at the front: it is not cut, its length is right for its name, no other flag is set, and its name is a raised name
+-- a well-formed record stands at the front: it is not cut, its length is right for its name, no other flag is set, and
+-- its name is a raised name
 unfoldable pub isRecord : Shape → List ℕ → Bool
 isRecord s bs =
     leb (2 + bodyLength s (nameLengthAt bs)) (length bs)
@@ -60,8 +61,9 @@ unfoldable pub unlessEnd : List ℕ → TableReading → TableReading
 unlessEnd [] reading = profiles []
 unlessEnd (b ∷ bs) reading = reading
 
--- The records of bytes, where there is room for so many more and their names come after one. Decides 31 for a record that is not well-formed, then 32 for
--- one too many and for one whose name does not come after the name before it. Bytes that are left over are a record that is cut.
+-- The records of bytes, where there is room for that many more and their names come after one. Decides 31 for a record
+-- that is not well-formed, then 32 for one too many and for one whose name does not come after the name before it.
+-- Bytes that are left over are a record that is cut.
 unfoldable pub profilesFrom : Shape → ℕ → List ℕ → List ℕ → TableReading
 profilesFrom s zero before bs = unlessEnd bs (if isRecord s bs then tableRefused profilesNotAscending else tableRefused badProfile)
 profilesFrom s (suc room) before bs = unlessEnd bs

@@ -1,6 +1,6 @@
--- What is proved of profile tables: they read back, what is read is written back, the first bad record decides, and a look-up is membership; and one table in
--- bytes. The proofs are in `proofs/Fronts.antt`, `proofs/Tables.antt`, `proofs/Backs.antt`, `proofs/Decides.antt`, `proofs/Example.antt` and
--- `proofs/Members.antt`.
+-- What is proved of profile tables: they read back, what is read is written back, the first bad record decides, and a
+-- look-up is membership; and one table in bytes. The proofs are in `proofs/Fronts.antt`, `proofs/Tables.antt`,
+-- `proofs/Backs.antt`, `proofs/Decides.antt`, `proofs/Example.antt` and `proofs/Members.antt`.
 use mathlib.Core.Path.{_≡_}
 use mathlib.Core.Bool.{true, false}
 use mathlib.Core.List.{List, [], _∷_, _++_, map}
@@ -28,8 +28,8 @@ abbrev pub Ascending : Shape → List ℕ → List Profile → Type 0
 Ascending s before [] = Unit {0}
 Ascending s before (p ∷ ps) = WellFormed s p × (T (precedes before (p .name)) × Ascending s (p .name) ps)
 
--- Records of profiles that are well-formed, strictly ascending and not too many read as those profiles, whatever the shape, if two bytes can say the length
--- of its records.
+-- Records of profiles that are well-formed, strictly ascending and not too many read as those profiles, whatever the
+-- shape, if two bytes can say the length of its records.
 abbrev pub RecordsReadBack : Type 0
 RecordsReadBack =
     (s : Shape) → bodyLength s profileLimit < 2 ^ 16 → (room : ℕ) (before : List ℕ) (ps : List Profile)
@@ -96,7 +96,8 @@ pub record Occurs (p : Profile) (ps : List Profile) : Type 0 where
   pub behind : List Profile
   pub there : ps ≡ before ++ p ∷ behind
 
--- In ascending profiles a look-up finds a profile exactly where it is one of them and has that name; so no other has it.
+-- In ascending profiles a look-up finds a profile exactly where it is one of them and has that name; so no other has
+-- it.
 abbrev pub LookupIsMembership : Type 0
 LookupIsMembership =
     (s : Shape) (before : List ℕ) (ps : List Profile) → Ascending s before ps

@@ -1,4 +1,5 @@
--- Made records are good, and tables of them are accepted: the theorems `Theorems.MadeRecordsAreGood` and `Theorems.MadeTablesRead`. Assumes nothing.
+-- Made records are good, and tables of them are accepted: the theorems `Theorems.MadeRecordsAreGood` and
+-- `Theorems.MadeTablesRead`. Assumes nothing.
 use mathlib.Core.Path.{_≡_}
 use mathlib.Core.Bool.{not}
 use mathlib.Core.List.{List, [], _∷_, map}
@@ -28,7 +29,7 @@ use Rattle.profile_maker.proofs.Formed.{formed, size}
 never : {A : Type 0} {k n : ℕ} → Refused k ≡ Wrote n → A
 never e = let z : _≡_ {A = ℕ} 0 1 = cc in absurd (omega arith)
 
--- what is left after an answer that so many bytes were written
+-- what is left after an answer that n bytes were written
 abbrev GoodIfWrote : Making → ℕ → Outcome Made → Type 0
 GoodIfWrote m n o = o .answer ≡ Wrote n → Good m n (take n (o .lent))
 

@@ -1,5 +1,6 @@
--- The profile of the token maker (specification, "Profile table"): "takes a name, a password and two yes-or-no marks, enabled and DES allowed, and writes
--- one record; it clears 02X and writes a zero DES token where the password has none". Names and passwords are lists of ASCII bytes.
+-- The profile of the token maker (specification, "Profile table"): "takes a name, a password and two yes-or-no marks,
+-- enabled and DES allowed, and writes one record; it clears 02X and writes a zero DES token where the password has
+-- none". Names and passwords are lists of ASCII bytes.
 use Prim.Native.Nat.{ℕ}
 use mathlib.Core.Bool.{Bool, _&&_}
 use mathlib.Core.List.{List, [], _∷_}

@@ -1,5 +1,5 @@
--- What is proved of made records: they are records of well-formed profiles, and a table of them in ascending order is accepted. The proofs are in
--- `proofs/Goodness.antt`.
+-- What is proved of made records: they are records of well-formed profiles, and a table of them in ascending order is
+-- accepted. The proofs are in `proofs/Goodness.antt`.
 use mathlib.Core.Path.{_≡_}
 use mathlib.Core.List.{List, [], _∷_, map}
 use Prim.Native.Nat.{ℕ, _+_, _≤_}
@@ -15,13 +15,14 @@ use Rattle.profile_maker.specs.declared.Made.the-variants.{Wrote}
 use Rattle.profile_maker.specs.Made.{Making, madeProfile}
 use Rattle.profile_maker.specs.Promise.{makeInto}
 
--- the bytes that were written, so many, are the record of a profile that is well-formed
+-- the n bytes that were written are the record of a profile that is well-formed
 pub record Good (m : Making) (n : ℕ) (written : List ℕ) : Type 0 where
   pub size : n ≡ 32 + length (m .name)
   pub bytes : written ≡ recordBytes (madeProfile m)
   pub formed : WellFormed version1 (madeProfile m)
 
--- Where the token maker answers that it wrote n bytes, the first n of what was lent are the record of a well-formed profile.
+-- Where the token maker answers that it wrote n bytes, the first n of what was lent are the record of a well-formed
+-- profile.
 abbrev pub MadeRecordsAreGood : Type 0
 MadeRecordsAreGood =
     (m : Making) (out : List ℕ) (n : ℕ) → makeInto m out .answer ≡ Wrote n → Good m n (take n (makeInto m out .lent))

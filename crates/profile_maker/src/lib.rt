@@ -1,5 +1,5 @@
-// The token maker: one record of a profile table from a name, a password and two marks. What is right is said in `specs/`: `Made.antt` has the profile,
-// `Promise.antt` the refusals.
+// The token maker: one record of a profile table from a name, a password and two marks. What is right is said in
+// `specs/`: `Made.antt` has the profile, `Promise.antt` the refusals.
 ghost use mathlib.Core.Bool.{true};
 ghost use mathlib.Core.Path.{_≡_};
 ghost use mathlib.Core.List.{[], _∷_};
@@ -74,8 +74,9 @@ fn put_record(name: &[u8], flags: u8, des: [u8; 8], sha: [u8; 20], out: &mut [u8
     octets::put(&sha, out, 12 + n);
 }
 
-// Writes the record of a name and a password to the front of `out`: 32 bytes and the name's. 33 for a bad name, 34 for a bad password, 4 where `out` is too
-// short; a refusal leaves `out` as it was. The password is one of SHA-1's; where DES cannot have it, the record has no DES token and does not allow DES.
+// Writes the record of a name and a password to the front of `out`: 32 bytes and the name's. 33 for a bad name, 34 for
+// a bad password, 4 where `out` is too short; a refusal leaves `out` as it was. The password is one of SHA-1's; where
+// DES cannot have it, the record has no DES token and does not allow DES.
 pub fn make_record(
     name: &[u8],
     password: &[u8],

@@ -1,4 +1,5 @@
--- What is found in a table is the profile that has the name and stands at the place: the theorem `Theorems.FoundIsNamed`. Assumes nothing.
+-- What is found in a table is the profile that has the name and stands at the place: the theorem
+-- `Theorems.FoundIsNamed`. Assumes nothing.
 use mathlib.Core.Path.{_≡_, refl, sym, ap, _∙_}
 use mathlib.Core.List.{List, [], _∷_, _++_}
 use Prim.Native.Nat.{ℕ, _+_}

@@ -15,7 +15,8 @@ use Rattle.profile_table.specs.Answer.{entry, foundIn}
 abbrev pub standing : List ℕ → ℕ → Profile
 standing table at = profileAt version1 (drop at table)
 
--- what a look-up in the profiles of a table must be, by its answer: none, or the profile that stands at the answer's place, with its marks
+-- what a look-up in the profiles of a table must be, by its answer: none, or the profile that stands at the answer's
+-- place, with its marks
 abbrev pub Tells : List ℕ → ProfileLookup → Found → Type 0
 Tells table l Absent = l ≡ noProfile
 Tells table l (Present e) = (l ≡ oneProfile (standing table (e .at))) × (e ≡ entry (e .at) (standing table (e .at)))

@@ -1,5 +1,6 @@
-// The profile table: how many profiles it has, and the profile of a name. Both take one pass over the lent table and look at each byte at most six times;
-// nothing is copied but a name. What a table says is `profile`'s `tableOf`; what is answered stands in `specs/Answer.antt`.
+// The profile table: how many profiles it has, and the profile of a name. Both take one pass over the lent table and
+// look at each byte at most six times; nothing is copied but a name. What a table says is `profile`'s `tableOf`; what
+// is answered stands in `specs/Answer.antt`.
 ghost use mathlib.Core.Path.{_≡_};
 ghost use Prim.Native.Nat.{_+_, _*_, _≤_, _<_};
 ghost use mathlib.Core.List.{[]};
@@ -10,7 +11,7 @@ ghost use Rattle.profile.specs.Table.{nameLengthAt, profileAt, isRecord, tableO
 ghost use Rattle.profile_table.specs.Answer.{checked, entry, foundIn};
 ghost use Rattle.profile_table.specs.near.Steps.{Stepped, recordsBehind, foundHere, scan, scanned};
 
-// A table has at most so many profiles.
+// How many profiles a table has at most.
 pub const PROFILE_COUNT: usize = 500;
 
 // How long a record is besides its name, and what its length says of that.
@@ -38,7 +39,7 @@ pub enum Found {
     Refused(u8),
 }
 
-// A record with a name of so many bytes, or the refusal of the table.
+// A record, by the length of its name, or the refusal of the table.
 enum Step {
     Next(usize),
     Stop(u8),
@@ -74,7 +75,7 @@ fn is_record(bytes: &[u8]) -> bool
     names_order::is_raised_name(&bytes[4..4 + n], 10)
 }
 
-// The record at the front of bytes, after so many profiles and the name of the last of them.
+// The record at the front of bytes, after `count` profiles, the last of which has the name `before`.
 fn next_record(bytes: &[u8], before: &[u8], count: usize) -> Step
     requires { ⌜ 0 < length (now bytes) ⌝ }
     ensures { λ r. ⌜ Stepped count (now (before .entry)) (now (bytes .entry)) r ⌝ }
@@ -183,7 +184,8 @@ pub fn check(table: &[u8]) -> TableCheck
     }
 }
 
-// The profile of a name, raised first, or that there is none; 30, 31 or 32, wherever the fault stands in the table. A text that is no name is in no table.
+// The profile of a name, raised first, or that there is none; 30, 31 or 32, wherever the fault stands in the table. A
+// text that is no name is in no table.
 pub fn find(table: &[u8], name: &[u8]) -> Found
     ensures { λ r. ⌜ r ≡ foundIn (raised (now (name .entry))) (tableOf (now (table .entry))) ⌝ }
 {

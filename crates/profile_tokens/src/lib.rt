@@ -22,7 +22,8 @@ fn token_part(table: &[u8], at: usize, from: usize, count: usize) -> &[u8]
     octets_part::part(record, 4 + n + from, count)
 }
 
-// The DES token of the profile whose record stands at a place that `profile_table::find` gave; at any other place, what stands there as if it were one.
+// The DES token of the profile whose record stands at a place that `profile_table::find` gave; at any other place, what
+// stands there as if it were one.
 pub fn des_token(table: &[u8], at: usize) -> &[u8]
     ensures { λ r. ⌜ now r ≡ desToken (profileAt version1 (drop at (now (table .entry)))) ⌝ }
 {

@@ -1,11 +1,11 @@
-// The DES known-answer tests of NIST SP 800-17 (encryption of one block: the sets variable plaintext, variable key, permutation and
-// substitution) and the example with key 133457799BBCDFF1, 172 in all. Each line of standard input is a key and a plaintext; they are
-// written out with the ciphertext computed, and `stdout` has the published one.
-// Longer lines are sixteen round keys of eight groups, a byte each, and a plaintext: those of the example's key as they are and with 64, 128
-// and 192 added, and groups about 63 and 64. Their ciphertexts are from a Python rendering of FIPS 46's tables, in which the low six bits of a
-// group count (`docs/DECISIONS.md`, D1).
-// Last comes the CBC example of FIPS 81 (key 0123456789ABCDEF, "Now is the time for all "), cut after no, one, two and three blocks. Its
-// initialization vector 1234567890ABCDEF is added to the first block, since the chain here starts from zeros.
+// The DES known-answer tests of NIST SP 800-17 (encryption of one block: the sets variable plaintext, variable key,
+// permutation and substitution) and the example with key 133457799BBCDFF1, 172 in all. Each line of standard input is a
+// key and a plaintext; they are written out with the ciphertext computed, and `stdout` has the published one. Longer
+// lines are sixteen round keys of eight groups, a byte each, and a plaintext: those of the example's key as they are
+// and with 64, 128 and 192 added, and groups about 63 and 64. Their ciphertexts are from a Python rendering of FIPS
+// 46's tables, in which the low six bits of a group count (`docs/DECISIONS.md`, D1). Last comes the CBC example of FIPS
+// 81 (key 0123456789ABCDEF, "Now is the time for all "), cut after no, one, two and three blocks. Its initialization
+// vector 1234567890ABCDEF is added to the first block, since the chain here starts from zeros.
 ghost use Prim.Native.Nat.{_≤_};
 ghost use lib.ListN.{length};
 

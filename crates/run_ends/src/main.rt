@@ -1,15 +1,17 @@
-// Two ends of one side of an option, replayed (`option_ends::replay`). First on the cases of standard input, one a line: a name, a colon, and in hexadecimal
-// digits an option and the bytes of the calls: 00 to 03 are the near end's request on, request off, receive accepting, receive declining; 04 to 07 are the
-// far end's; any other byte is no call (`docs/DECISIONS.md`, O9). A line of output has the name, the states of near and far, the commands under way to
-// each, the oldest first, the commands sent, and the requests not refused.
+// Two ends of one side of an option, replayed (`option_ends::replay`). First on the cases of standard input, one a
+// line: a name, a colon, and in hexadecimal digits an option and the bytes of the calls: 00 to 03 are the near end's
+// request on, request off, receive accepting, receive declining; 04 to 07 are the far end's; any other byte is no call
+// (`docs/DECISIONS.md`, O9). A line of output has the name, the states of near and far, the commands under way to each,
+// the oldest first, the commands sent, and the requests not refused.
 //
-// Then the fault that ran all night, looked for: the two ends make every list of at most five calls, and take what is under way, in turn, all accepting or
-// all declining. The program prints how many runs that makes, the most commands seen under way in one direction, the most commands sent in one run, the
-// runs that did not come to rest, and over all runs together the commands sent and the requests not refused.
+// Then the fault that ran all night, looked for: the two ends make every list of at most five calls, and take what is
+// under way, in turn, all accepting or all declining. The program prints how many runs that makes, the most commands
+// seen under way in one direction, the most commands sent in one run, the runs that did not come to rest, and over all
+// runs together the commands sent and the requests not refused.
 //
-// `stdout` is from a model of the specification's table and of its "Two ends, for demand 3", written from the paper in another language and not from this
-// program. Note 14 has no case: no list leads to it (the model walked all 54 pairs of ends that there are). The nearest is an on under way to WantOff, which
-// stands after an off.
+// `stdout` is from a model of the specification's table and of its "Two ends, for demand 3", written from the paper in
+// another language and not from this program. Note 14 has no case: no list leads to it (the model walked all 54 pairs
+// of ends that there are). The nearest is an on under way to WantOff, which stands after an off.
 ghost use mathlib.Core.Path.{_≡_};
 ghost use Prim.Native.Nat.{_%_};
 use option_ends::Line;

@@ -1,5 +1,5 @@
--- The first k elements of a local array, apart from the others: what a walk lends of `a[..k]`, by `env_list`'s steps for an array of k elements (`Buffer`);
--- and a local array that is read whole.
+-- The first k elements of a local array, apart from the others: what a walk lends of `a[..k]`, by `env_list`'s steps
+-- for an array of k elements (`Buffer`); and a local array that is read whole.
 --     Others           the elements from the k-th on
 --     cut              an array of n elements is its first k and the others
 --     joined           the first k, at whatever they are now, and the others are an array of n elements again

@@ -1,5 +1,5 @@
--- What the walks of this program share. None of its functions promises anything, and none needs what a callee promises: safety asks only that what
--- was lent comes back.
+-- What the walks of this program share. None of its functions promises anything, and none needs what a callee promises:
+-- safety asks only that what was lent comes back.
 --     silent           a goal P ∗ ⊤: P is left
 --     only-lasts       what a callee ensures says what its `&mut` parameters are at exit
 -- Assumes nothing.

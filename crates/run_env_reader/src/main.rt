@@ -1,10 +1,12 @@
-// Runs the reader of environment strings on the cases of standard input, one a line: a name, a colon, and in hexadecimal digits the room lent for bytes
-// (two bytes), the room lent for numbers (two bytes) and the payload. A line without a colon is a title.
+// Runs the reader of environment strings on the cases of standard input, one a line: a name, a colon, and in
+// hexadecimal digits the room lent for bytes (two bytes), the room lent for numbers (two bytes) and the payload. A line
+// without a colon is a title.
 //
-// A line of output has the name, the answer (the first byte, how many variables, how many bytes; or the refusal), and all that was lent, as it is
-// after the call: bytes, which are EE before, and numbers, which are 7 before. The payloads of RFC 4777 are its own bytes; the others are for the refusals
-// of the specification, every two faults in either order, and each of its readings that is not the only one. `stdout` was made by a Python rendering
-// of RFC 1572 as the specification reads it.
+// A line of output has the name, the answer (the first byte, how many variables, how many bytes; or the refusal), and
+// all that was lent, as it is after the call: bytes, which are EE before, and numbers, which are 7 before. The payloads
+// of RFC 4777 are its own bytes; the others are for the refusals of the specification, every two faults in either
+// order, and each of its readings that is not the only one. `stdout` was made by a Python rendering of RFC 1572 as the
+// specification reads it.
 use env_delivery::Answer;
 
 fn say(text: &[u8]) {

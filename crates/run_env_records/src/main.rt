@@ -1,9 +1,10 @@
-// Runs the look-up of a variable on the cases of standard input, one a line: a name, a colon, and in hexadecimal digits the kind (two bytes), the length
-// of the name that is looked up, that name, the length of a buffer (two bytes), the buffer, and the numbers of the records over it (two bytes each). A
-// line without a colon is a title.
+// Runs the look-up of a variable on the cases of standard input, one a line: a name, a colon, and in hexadecimal digits
+// the kind (two bytes), the length of the name that is looked up, that name, the length of a buffer (two bytes), the
+// buffer, and the numbers of the records over it (two bytes each). A line without a colon is a title.
 //
-// A line of output has the name and the answers of `find`, the length and place of the value, and of `value_of`, the value. The records are those that the payloads of RFC 4777 are
-// read to, and others for the readings of the specification. `stdout` was made by a Python rendering of RFC 1572 as the specification reads it.
+// A line of output has the name and the answers of `find`, the length and place of the value, and of `value_of`, the
+// value. The records are those that the payloads of RFC 4777 are read to, and others for the readings of the
+// specification. `stdout` was made by a Python rendering of RFC 1572 as the specification reads it.
 use env_records::ValuePlace;
 use octets_part::part;
 use show_numbers::number_at;

@@ -1,10 +1,11 @@
-// Runs the writer of environment strings on the cases of standard input, one a line: a name, a colon, and in hexadecimal digits the first byte, the room
-// lent for the payload (two bytes), the length of a buffer (two bytes), the buffer, and the numbers of the records over it (two bytes each; FFFF stands
-// for the largest number there is). A line without a colon is a title.
+// Runs the writer of environment strings on the cases of standard input, one a line: a name, a colon, and in
+// hexadecimal digits the first byte, the room lent for the payload (two bytes), the length of a buffer (two bytes), the
+// buffer, and the numbers of the records over it (two bytes each; FFFF stands for the largest number there is). A line
+// without a colon is a title.
 //
-// A line of output has the name, the answer, and all that was lent, as it is after the call; it is EE before. What the reader's cases read is written
-// again; the others are for the refusals of the specification and every two faults in either order. `stdout` was made by a Python rendering of
-// RFC 1572 as the specification reads it.
+// A line of output has the name, the answer, and all that was lent, as it is after the call; it is EE before. What the
+// reader's cases read is written again; the others are for the refusals of the specification and every two faults in
+// either order. `stdout` was made by a Python rendering of RFC 1572 as the specification reads it.
 use env_writer::Written;
 use octets_part::part;
 use show_numbers::number_at;

@@ -1,7 +1,9 @@
-// Runs the calls for C whose arguments or answers stand for the cases of an enum, on the cases of standard input, one a line: a title, a colon, and in hexadecimal
-// digits a byte that says which call, and its arguments. A line of output has the title and the numbers of the answer in the order of its struct, and what was
-// written. `stdin` and `stdout` were made by a Python script from the constants of include/tongvelvet.h and the specification's table of the option rules and its
-// frames: every number of every enum, both ways, and numbers that name nothing. Those of the verdicts are in `run_export_signon`, which loads more.
+// Runs the calls for C whose arguments or answers stand for the cases of an enum, on the cases of standard input, one a
+// line: a title, a colon, and in hexadecimal digits a byte that says which call, and its arguments. A line of output
+// has the title and the numbers of the answer in the order of its struct, and what was written. `stdin` and `stdout`
+// were made by a Python script from the constants of include/tongvelvet.h and the specification's table of the option
+// rules and its frames: every number of every enum, both ways, and numbers that name nothing. Those of the verdicts are
+// in `run_export_signon`, which loads more.
 use export_option::TvPair;
 use export_option::TvSides;
 use export_print::TvLedger;

@@ -1,6 +1,8 @@
-// Runs the calls for C on verdicts, on the cases of standard input, one a line: a title, a colon, and in hexadecimal digits a byte that says which call, and its
-// arguments. A line of output has the title and the numbers of the answer in the order of its struct, and the code that was written. `stdin` and `stdout` were made
-// by a Python script from the constants of include/tongvelvet.h and the sign-ons of `run_signon`: every verdict, both ways, and numbers that name none.
+// Runs the calls for C on verdicts, on the cases of standard input, one a line: a title, a colon, and in hexadecimal
+// digits a byte that says which call, and its arguments. A line of output has the title and the numbers of the answer
+// in the order of its struct, and the code that was written. `stdin` and `stdout` were made by a Python script from the
+// constants of include/tongvelvet.h and the sign-ons of `run_signon`: every verdict, both ways, and numbers that name
+// none.
 
 fn say(text: &[u8]) {
     io::write_all(1, text);

@@ -1,5 +1,5 @@
-// What the listing program prints at its limits: for the 65,536 bytes with the longest listing known, for one byte more, and for no byte. The
-// program prints how many bytes that is, and the last line of it.
+// What the listing program prints at its limits: for the 65,536 bytes with the longest listing known, for one byte
+// more, and for no byte. The program prints how many bytes that is, and the last line of it.
 ghost use mathlib.Core.Path.{_≡_};
 ghost use Prim.Native.Nat.{_≤_};
 ghost use lib.ListN.{length};

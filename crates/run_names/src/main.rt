@@ -1,11 +1,13 @@
-// Runs names and their EBCDIC on the cases of standard input, one a line: a letter, the case's name, a colon, and bytes in hexadecimal digits.
+// Runs names and their EBCDIC on the cases of standard input, one a line: a letter, the case's name, a colon, and bytes
+// in hexadecimal digits.
 //
 //     e name: bytes                    the EBCDIC of each byte
 //     n name: text                     the profile, device and system name that a text gives, each with its length; no name has length 0
 //     i name: limit text               whether a text is a name of at most so many bytes
 //     p name: room place width text    the EBCDIC of a text padded to a width, put at a place of so much room of twenty bytes, which are 2E before
 //
-// `stdout` is from the specification ("Tokens, substitutes, verdicts", "Response records"), with `docs/DECISIONS.md`, N10 and N11, for what no name has.
+// `stdout` is from the specification ("Tokens, substitutes, verdicts", "Response records"), with `docs/DECISIONS.md`,
+// N10 and N11, for what no name has.
 use names::Name;
 
 fn say(text: &[u8]) {

@@ -1,10 +1,12 @@
-// Runs requests, receipts and what is heard with their commands on a line, on the cases of standard input, one a line: a title, a colon, in hexadecimal digits
-// calls of six bytes each, a blank, and the bytes of the other end's line. A case begins with fresh sides and a line of eight bytes EE. A call is a request for our
-// own side (00 off, 01 on) or for the other's (02 off, 03 on), a receipt (FB to FE), or 10 for what is heard; an option; whether on is accepted (01); the place
-// that is heard from; the place on the own line; and how long that line is.
+// Runs requests, receipts and what is heard with their commands on a line, on the cases of standard input, one a line:
+// a title, a colon, in hexadecimal digits calls of six bytes each, a blank, and the bytes of the other end's line. A
+// case begins with fresh sides and a line of eight bytes EE. A call is a request for our own side (00 off, 01 on) or
+// for the other's (02 off, 03 on), a receipt (FB to FE), or 10 for what is heard; an option; whether on is accepted
+// (01); the place that is heard from; the place on the own line; and how long that line is.
 //
-// A line of output for each call has the number, the place after it, the states of our side and the other's of that option, numbered as the rows of the
-// specification's table from 0 on, and the own line. `stdout` was made by a Python rendering of that table and of RFC 854's framing.
+// A line of output for each call has the number, the place after it, the states of our side and the other's of that
+// option, numbered as the rows of the specification's table from 0 on, and the own line. `stdout` was made by a Python
+// rendering of that table and of RFC 854's framing.
 use option_line::Sent;
 use option_rules::Command;
 use option_rules::Side;

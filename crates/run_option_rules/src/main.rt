@@ -1,9 +1,11 @@
-// Runs the option rules on the cases of standard input, one a line: a name, a colon, and in hexadecimal digits an option, a state and a call. The states
-// are numbered as the rows of the specification's table, the calls 00 receive on and accept, 01 receive on and decline, 02 receive off, 03 request on,
-// 04 request off, and from 05 on the same by a command. A line of more than three bytes is a list of options, of which those that are carried are written.
+// Runs the option rules on the cases of standard input, one a line: a name, a colon, and in hexadecimal digits an
+// option, a state and a call. The states are numbered as the rows of the specification's table, the calls 00 receive on
+// and accept, 01 receive on and decline, 02 receive off, 03 request on, 04 request off, and from 05 on the same by a
+// command. A line of more than three bytes is a list of options, of which those that are carried are written.
 //
-// A line of output has the name and the answer: the successor, the number, and the command that is sent, if any. `stdout` is that table, cell by cell, and
-// for an option not carried the sentence above it (`docs/DECISIONS.md`, O1 to O3).
+// A line of output has the name and the answer: the successor, the number, and the command that is sent, if any.
+// `stdout` is that table, cell by cell, and for an option not carried the sentence above it (`docs/DECISIONS.md`, O1 to
+// O3).
 use option_rules::Command;
 use option_rules::Sending;
 use option_rules::Side;

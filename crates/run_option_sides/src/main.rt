@@ -1,10 +1,12 @@
-// Runs the verbs and the ten sides of a session on the cases of standard input, one a line: a name, a colon, and in hexadecimal digits calls on fresh
-// sides, three bytes each. A call is a verb that we receive (FB to FE), an option, and whether on is accepted (01); or our request for our own side (00 off,
-// 01 on) or for the other's (02 off, 03 on), an option, and 00.
+// Runs the verbs and the ten sides of a session on the cases of standard input, one a line: a name, a colon, and in
+// hexadecimal digits calls on fresh sides, three bytes each. A call is a verb that we receive (FB to FE), an option,
+// and whether on is accepted (01); or our request for our own side (00 off, 01 on) or for the other's (02 off, 03 on),
+// an option, and 00.
 //
-// A line of output for each call has the verb and the command by which we would say the same of the same side; then the number, what is written, and the
-// states of our side and the other's, numbered as the rows of the specification's table from 0 on. `stdout` is from RFC 854 (WILL is acknowledged by DO,
-// DO by WILL; who sends WILL or WONT speaks of his own side), that table, and the exchanges that RFC 4777 prints in sections 2 and 3.
+// A line of output for each call has the verb and the command by which we would say the same of the same side; then the
+// number, what is written, and the states of our side and the other's, numbered as the rows of the specification's
+// table from 0 on. `stdout` is from RFC 854 (WILL is acknowledged by DO, DO by WILL; who sends WILL or WONT speaks of
+// his own side), that table, and the exchanges that RFC 4777 prints in sections 2 and 3.
 use option_rules::Command;
 use option_rules::Sending;
 use option_rules::Side;

@@ -1,11 +1,13 @@
-// Runs cases of the password substitutes from standard input, one a line: the examples of RFC 4777 (sections 5, 5.1 and 5.2), names and
-// passwords of every length that is treated in its own way, those about the limits of SHA-1, and what is refused: 33 comes first, and a
-// password that DES cannot have may be one for SHA-1. `stdout` has the RFC's substitutes; every other value there was computed by OpenSSL 3.0
-// (`des-ecb`, `des-cbc`) and Python's hashlib, over a Python rendering of the two sections.
+// Runs cases of the password substitutes from standard input, one a line: the examples of RFC 4777 (sections 5, 5.1 and
+// 5.2), names and passwords of every length that is treated in its own way, those about the limits of SHA-1, and what
+// is refused: 33 comes first, and a password that DES cannot have may be one for SHA-1. `stdout` has the RFC's
+// substitutes; every other value there was computed by OpenSSL 3.0 (`des-ecb`, `des-cbc`) and Python's hashlib, over a
+// Python rendering of the two sections.
 //
-// A line is what is written first, a colon, and in hexadecimal digits the seeds of the server and of the client, how many bytes the name and the
-// password have, and the two; a password that is given short goes on with `a`. The first letter says what is computed: `D` the token and the
-// substitute by DES, `S` by SHA-1, `R` the sequence number of the server's seed, `s` whether the name and the password are the same.
+// A line is what is written first, a colon, and in hexadecimal digits the seeds of the server and of the client, how
+// many bytes the name and the password have, and the two; a password that is given short goes on with `a`. The first
+// letter says what is computed: `D` the token and the substitute by DES, `S` by SHA-1, `R` the sequence number of the
+// server's seed, `s` whether the name and the password are the same.
 use password_des::Block;
 use password_sha::Hash;
 

@@ -1,7 +1,8 @@
-// Runs the reader of printer frames on the cases of standard input, one a line: a letter, the case's name, and bytes in hexadecimal digits. The frames named
-// after figures and lengths are the records of RFC 4777, sections 11 and 12, each as it is between two ends of record, a doubled 255 made one (figure 6's
-// data byte "is optional and in some cases may be omitted"); others have the diagnostic information that section 11 lists, other flags, and a fault for
-// each refusal.
+// Runs the reader of printer frames on the cases of standard input, one a line: a letter, the case's name, and bytes in
+// hexadecimal digits. The frames named after figures and lengths are the records of RFC 4777, sections 11 and 12, each
+// as it is between two ends of record, a doubled 255 made one (figure 6's data byte "is optional and in some cases may
+// be omitted"); others have the diagnostic information that section 11 lists, other flags, and a fault for each
+// refusal.
 //
 //     r name: frame    a frame
 //     z name:          a frame of 65,536 zeros, which cannot say its length

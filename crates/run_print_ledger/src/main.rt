@@ -1,4 +1,5 @@
-// Runs one ledger through the cases of standard input, one a line: a letter, the case's name, and bytes in hexadecimal digits.
+// Runs one ledger through the cases of standard input, one a line: a letter, the case's name, and bytes in hexadecimal
+// digits.
 //
 //     t name: frame     a frame, given to the ledger
 //     c name: output    a completion, into an output of these bytes

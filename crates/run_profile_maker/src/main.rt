@@ -1,8 +1,10 @@
-// Runs the token maker on the cases of standard input, one a line: what is written first, a colon, and in hexadecimal digits the two marks (01 where one is
-// set), how many bytes are lent, how many the name and the password have, and the two. The lent bytes are EE before the call.
+// Runs the token maker on the cases of standard input, one a line: what is written first, a colon, and in hexadecimal
+// digits the two marks (01 where one is set), how many bytes are lent, how many the name and the password have, and the
+// two. The lent bytes are EE before the call.
 //
-// A line of output is the answer and every lent byte after the call. `stdout` was computed by OpenSSL 3.0 (`des-ecb`) and Python's hashlib, over a Python
-// rendering of RFC 4777, sections 5.1 and 5.2, and of the specification ("Tokens, substitutes, verdicts", "Refusal numbers" 4, 33 and 34).
+// A line of output is the answer and every lent byte after the call. `stdout` was computed by OpenSSL 3.0 (`des-ecb`)
+// and Python's hashlib, over a Python rendering of RFC 4777, sections 5.1 and 5.2, and of the specification ("Tokens,
+// substitutes, verdicts", "Refusal numbers" 4, 33 and 34).
 use profile_maker::Made;
 
 fn say_number(word: &[u8], n: usize) {

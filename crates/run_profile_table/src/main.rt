@@ -1,9 +1,11 @@
-// Runs the check and the look-up of profile tables on the cases of standard input, one a line: what is written first, a colon, and in hexadecimal digits 00 or
-// 01, how many bytes the name to look up has, the name, and the table. After 01, what is given stands after the version byte and 500 good records, whose
-// names are A100 to A599 and whose tokens are text.
+// Runs the check and the look-up of profile tables on the cases of standard input, one a line: what is written first, a
+// colon, and in hexadecimal digits 00 or 01, how many bytes the name to look up has, the name, and the table. After 01,
+// what is given stands after the version byte and 500 good records, whose names are A100 to A599 and whose tokens are
+// text.
 //
-// A line of output is how many profiles the table has, and then the place of the name's record, its two marks (01 where one is set) and its two tokens.
-// `stdout` was computed by a Python rendering of the specification ("Tokens, substitutes, verdicts", "Refusal numbers" 30 to 32).
+// A line of output is how many profiles the table has, and then the place of the name's record, its two marks (01 where
+// one is set) and its two tokens. `stdout` was computed by a Python rendering of the specification ("Tokens,
+// substitutes, verdicts", "Refusal numbers" 30 to 32).
 use profile_table::Entry;
 use profile_table::Found;
 use profile_table::TableCheck;
@@ -61,7 +63,7 @@ fn put_records(end: u64, table: &mut [u8], at: usize) -> usize {
     place
 }
 
-// The table begins with so many bytes 01 and the records up to a number.
+// The table begins with `first` bytes 01 and the records up to a number.
 fn run_given(first: usize, end: u64, name: &[u8], given: &[u8]) {
     let mut table = [1u8; 20000];
     let at = put_records(end, &mut table, first);

@@ -1,6 +1,6 @@
-// Runs SHA-1 on the cases of standard input, one a line: a letter, the case's name, and in hexadecimal digits what the letter asks for. They are the three
-// published messages of FIPS 180 (`abc`, the 448-bit one and a million times `a`), and messages of lengths about the padding's edges, whose byte i is
-// the length plus 7 * i, modulo 256.
+// Runs SHA-1 on the cases of standard input, one a line: a letter, the case's name, and in hexadecimal digits what the
+// letter asks for. They are the three published messages of FIPS 180 (`abc`, the 448-bit one and a million times `a`),
+// and messages of lengths about the padding's edges, whose byte i is the length plus 7 * i, modulo 256.
 //
 //     m name: bytes               a message
 //     s name: first step count    the message of so many bytes (three bytes say it), each greater by the step than the one before, modulo 256

@@ -1,9 +1,11 @@
-// Runs sign-ons from standard input, one a line: a title, a colon, and in hexadecimal digits the length of the server seed (one byte), the length of
-// the profile table (two bytes), the seed, the table and the payload. A line of output has the title and the verdict, or the refusal.
+// Runs sign-ons from standard input, one a line: a title, a colon, and in hexadecimal digits the length of the server
+// seed (one byte), the length of the profile table (two bytes), the seed, the table and the payload. A line of output
+// has the title and the verdict, or the refusal.
 //
-// The cases are the sign-ons of RFC 4777 (sections 5, 5.1 and 5.2), these with one thing changed, each rule of a verdict from both sides, each refusal,
-// and two refusals at once. The tokens and substitutes in `stdin` are the RFC's or were computed by Python's hashlib and by the DES of its package
-// `cryptography`, with which OpenSSL 3.0 (`des-ecb`, `des-cbc`) agrees; `stdout` was made by a Python rendering of the specification over these.
+// The cases are the sign-ons of RFC 4777 (sections 5, 5.1 and 5.2), these with one thing changed, each rule of a
+// verdict from both sides, each refusal, and two refusals at once. The tokens and substitutes in `stdin` are the RFC's
+// or were computed by Python's hashlib and by the DES of its package `cryptography`, with which OpenSSL 3.0 (`des-ecb`,
+// `des-cbc`) agrees; `stdout` was made by a Python rendering of the specification over these.
 use signon::Answer;
 use signon::Verdict;
 

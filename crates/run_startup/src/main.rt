@@ -1,10 +1,12 @@
-// Writes the start-up response record of the cases of standard input, one a line: what is written first, a colon, and in hexadecimal digits the fault of
-// the device (01 where there is one), the verdict (00 panel, 01 not known, 02 disabled, 03 failed, 04 grant), how many bytes are lent, how many the
-// system's name has, that name, and the device's. The lent bytes are EE before the call.
+// Writes the start-up response record of the cases of standard input, one a line: what is written first, a colon, and
+// in hexadecimal digits the fault of the device (01 where there is one), the verdict (00 panel, 01 not known, 02
+// disabled, 03 failed, 04 grant), how many bytes are lent, how many the system's name has, that name, and the device's.
+// The lent bytes are EE before the call.
 //
-// A line of output is the answer and every lent byte after the call. The first three records of `stdout` are those of RFC 4777: figures 1 and 2 of section
-// 10, and section 12. The others were computed by a Python rendering of the figures and of the specification ("Response records", "Refusal numbers" 4
-// and 36), with Python's codec cp037 for EBCDIC.
+// A line of output is the answer and every lent byte after the call. The first three records of `stdout` are those of
+// RFC 4777: figures 1 and 2 of section 10, and section 12. The others were computed by a Python rendering of the
+// figures and of the specification ("Response records", "Refusal numbers" 4 and 36), with Python's codec cp037 for
+// EBCDIC.
 use signon::Verdict;
 use startup_record::Written;
 

@@ -1,5 +1,5 @@
-// Runs the listing on the streams of standard input, one a line: a letter, the case's name, and bytes in hexadecimal digits. They are each refusal of the
-// reader and its neighbours, and the mistakes of the specification's list.
+// Runs the listing on the streams of standard input, one a line: a letter, the case's name, and bytes in hexadecimal
+// digits. They are each refusal of the reader and its neighbours, and the mistakes of the specification's list.
 //
 //     l name: stream        the listing of a stream
 //     p name: count tail    the listing of FF FA 18, so many bytes 41 (two bytes say how many), and a tail

@@ -1,5 +1,5 @@
-// Runs the reader of events and of records on the cases of standard input, one a line: a letter, the case's name, and in hexadecimal digits a place, a room,
-// and a stream. They are the refusals at their boundaries, rooms and records.
+// Runs the reader of events and of records on the cases of standard input, one a line: a letter, the case's name, and
+// in hexadecimal digits a place, a room, and a stream. They are the refusals at their boundaries, rooms and records.
 //
 //     r name: place room stream    one event at a place, read into so much room of eight bytes
 //     k name: place room stream    one record from a place on, likewise

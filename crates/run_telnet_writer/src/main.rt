@@ -1,6 +1,7 @@
-// Runs the writer of events on the cases of standard input, one a line: a letter, the case's name, and in hexadecimal digits the kind of an event, its option
-// or command, a room, and what it carries. FF is data, 00 a simple command, FA a subnegotiation, FC WONT. They are the refusals at their boundaries,
-// rooms, and every simple command with its neighbours.
+// Runs the writer of events on the cases of standard input, one a line: a letter, the case's name, and in hexadecimal
+// digits the kind of an event, its option or command, a room, and what it carries. FF is data, 00 a simple command, FA
+// a subnegotiation, FC WONT. They are the refusals at their boundaries, rooms, and every simple command with its
+// neighbours.
 //
 //     w name: kind option room bytes    one event, written into so much room of twelve bytes
 //     x name: kind option room          the same with 1,025 bytes 00

@@ -1,5 +1,6 @@
--- SHA-1 of a message of bytes, in the order of FIPS 180-4: sections 4.1.1, 4.2.1, 5.1.1, 5.2.1, 5.3.1 and 6.1.2. Words have 32 bits; sums,
--- rotations, Ch, Parity, Maj, padding and cutting are those of the crate `words`, which has them over the sizes.
+-- SHA-1 of a message of bytes, in the order of FIPS 180-4: sections 4.1.1, 4.2.1, 5.1.1, 5.2.1, 5.3.1 and 6.1.2. Words
+-- have 32 bits; sums, rotations, Ch, Parity, Maj, padding and cutting are those of the crate `words`, which has them
+-- over the sizes.
 use Prim.Native.Nat.{ℕ, zero, suc, _-_}
 use mathlib.Core.List.{List, [], _∷_, _++_}
 use lib.Bits.{bitXor}
@@ -89,7 +90,7 @@ hashed H (block ∷ blocks) = hashed (compressed H block) blocks
 unfoldable pub digestOf : Five → List ℕ
 digestOf H = bytes 4 (H .a) ++ (bytes 4 (H .b) ++ (bytes 4 (H .c) ++ (bytes 4 (H .d) ++ bytes 4 (H .e))))
 
--- all of it: the hash values over the 512-bit blocks of the message, padded with its length in 64 bits. The standard is for less than
--- 2 ^ 64 bits; a longer message, whose length is then written modulo 2 ^ 64, is hashed all the same.
+-- all of it: the hash values over the 512-bit blocks of the message, padded with its length in 64 bits. The standard is
+-- for less than 2 ^ 64 bits; a longer message, whose length is then written modulo 2 ^ 64, is hashed all the same.
 unfoldable pub sha1 : List ℕ → List ℕ
 sha1 message = digestOf (hashed H⁰ (cut 64 (padded 512 64 message)))

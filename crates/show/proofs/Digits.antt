@@ -1,5 +1,5 @@
--- The laws of the hexadecimal texts: the value of a digit is below 16, how long each text is, and a text from one of its bytes on.
--- Assumes nothing.
+-- The laws of the hexadecimal texts: the value of a digit is below 16, how long each text is, and a text from one of
+-- its bytes on. Assumes nothing.
 use mathlib.Core.Path.{_≡_, refl}
 use mathlib.Core.List.{List, [], _∷_, _++_}
 use Prim.Native.Nat.{ℕ, _+_, _*_, _/_, _≤_, _<_}

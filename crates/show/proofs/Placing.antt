@@ -1,4 +1,5 @@
--- `placed` and `hexInto` in their two cases, what a writer's answer says, and a loop that puts one piece after the other. Assumes nothing.
+-- `placed` and `hexInto` in their two cases, what a writer's answer says, and a loop that puts one piece after the
+-- other. Assumes nothing.
 use mathlib.Core.Path.{_≡_, refl, sym, ap, _∙_}
 use mathlib.Core.Bool.{Bool, true, false, true≢false}
 use mathlib.Core.Logic.{_⊎_, inl, inr}

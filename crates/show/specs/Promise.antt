@@ -1,4 +1,4 @@
--- What the functions of this crate promise.
+-- Bytes put into a buffer: all of them, or none.
 use Prim.Native.Nat.{ℕ, _+_}
 use mathlib.Core.List.{List}
 use lib.Dec.{leb}
@@ -12,6 +12,7 @@ unfoldable pub hexInto : List ℕ → List ℕ → Outcome ℕ
 hexInto text out =
     if leb (length (hexBytes text)) (length out) then outcome (length (hexBytes text)) (overwrite out 0 (hexBytes text)) else outcome 0 out
 
--- words at a place of a buffer, and the place after them; the buffer and the place as they were where the words do not fit
+-- words at a place of a buffer, and the place after them; the buffer and the place as they were where the words do not
+-- fit
 unfoldable pub placed : List ℕ → List ℕ → ℕ → Outcome ℕ
 placed words out at = if leb (at + length words) (length out) then outcome (at + length words) (overwrite out at words) else outcome at out

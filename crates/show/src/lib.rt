@@ -1,5 +1,5 @@
-// Text for programs that show what the libraries do: lines and hexadecimal digits in; bytes, words and numerals out, put one after the other into
-// a lent buffer. Each is total, and where something does not fit nothing is written.
+// Text for programs that show what the libraries do: lines and hexadecimal digits in; bytes, words and numerals out,
+// put one after the other into a lent buffer. Each is total, and where something does not fit nothing is written.
 ghost use mathlib.Core.Path.{_≡_};
 ghost use Prim.Native.Nat.{_+_, _≤_, _<_};
 ghost use lib.ListN.{length};
@@ -25,7 +25,8 @@ fn byte_of(high: u8, low: u8) -> u8
     16 * digit_value(high) + digit_value(low)
 }
 
-// The bytes that pairs of hexadecimal digits say, put to the front of the buffer; the answer is how many. Where they do not fit, none.
+// The bytes that pairs of hexadecimal digits say, put to the front of the buffer; the answer is how many. Where they do
+// not fit, none.
 pub fn read_hex(text: &[u8], out: &mut [u8]) -> usize
     ensures { λ r. ⌜ outcome r (now (out .exit)) ≡ hexInto (now (text .entry)) (now (out .entry)) ⌝ }
 {

@@ -1,5 +1,5 @@
-// Says an event of the line, for a program that shows a session: who sends it, the line that the listing has for it, and what it is for. What is said goes to
-// standard output, of which no contract speaks.
+// Says an event of the line, for a program that shows a session: who sends it, the line that the listing has for it,
+// and what it is for. What is said goes to standard output, of which no contract speaks.
 ghost use mathlib.Core.Path.{_≡_};
 ghost use Prim.Native.Nat.{_/_};
 ghost use lib.ListN.{length};
@@ -97,7 +97,8 @@ pub fn say_event(sender: Sender, line: &[u8], at: usize) -> usize
     behind(at, answer)
 }
 
-// Writes an event at a place of the line; the answer is the place after it. Where it is refused, or the place is after the end, nothing is written.
+// Writes an event at a place of the line; the answer is the place after it. Where it is refused, or the place is after
+// the end, nothing is written.
 fn put_event(kind: Kind, payload: &[u8], line: &mut [u8], at: usize) -> usize
     ensures { λ r. ⌜ outcome r (now (line .exit)) ≡ sentAt (event kind (now (payload .entry))) (now (line .entry)) at ⌝ }
 {

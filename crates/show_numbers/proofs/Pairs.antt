@@ -1,4 +1,5 @@
--- The laws of the numbers of pairs: how many there are, those from a place on, and `numbersInto` in its two cases. Assumes nothing.
+-- The laws of the numbers of pairs: how many there are, those from a place on, and `numbersInto` in its two cases.
+-- Assumes nothing.
 use mathlib.Core.Path.{_≡_, refl}
 use mathlib.Core.List.{List, [], _∷_}
 use Prim.Native.Nat.{ℕ, _+_, _/_, _≤_, _<_}

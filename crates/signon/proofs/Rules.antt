@@ -1,4 +1,5 @@
--- The conditions for GRANT are the sentences of demand 2, for a profile that is well-formed and a user that is a name. Assumes nothing.
+-- The conditions for GRANT are the sentences of demand 2, for a profile that is well-formed and a user that is a name.
+-- Assumes nothing.
 use mathlib.Core.Path.{_≡_, refl, sym, ap, subst, _∙_}
 use mathlib.Core.Bool.{Bool, true, false, not, _&&_, _||_}
 use mathlib.Core.List.{List, [], _∷_, map}

@@ -1,5 +1,5 @@
--- What is proved of verdicts: each is given exactly where its sentence holds. The sentences are those of the owner's demand 2 and of the specification, and say
--- nothing of how a verdict is found. The proofs are in `proofs/`.
+-- What is proved of verdicts: each is given exactly where its sentence holds. The sentences are those of the owner's
+-- demand 2 and of the specification, and say nothing of how a verdict is found. The proofs are in `proofs/`.
 use mathlib.Core.Path.{_≡_}
 use mathlib.Core.Bool.{false}
 use mathlib.Core.List.{List, []}
@@ -82,8 +82,8 @@ pub record NamedWith (mark : Profile → Type 0) (ps : List Profile) (vs : List 
   pub named : Named ps vs user profile
   pub marked : mark profile
 
--- The sentence of each verdict. "PANEL, if neither USERVAR is present; 0002, if VAR USER is absent, no valid name, or not in the table; 0003, not enabled;
--- GRANT, if ..; else 0004."
+-- The sentence of each verdict. "PANEL, if neither USERVAR is present; 0002, if VAR USER is absent, no valid name, or
+-- not in the table; 0003, not enabled; GRANT, if ..; else 0004."
 abbrev pub Sentence : List ℕ → List Profile → List Variable → Verdict → Type 0
 Sentence seed ps vs Panel = Untold vs USERVAR IBMRSEED × Untold vs USERVAR IBMSUBSPW
 Sentence seed ps vs NotKnown = OneTold vs × NoneNamed ps vs
@@ -114,8 +114,8 @@ pub record Readable (seed table payload : List ℕ) : Type 0 where
 abbrev pub NoVerdictIfRefused : Type 0
 NoVerdictIfRefused = (seed table payload : List ℕ) (v : Verdict) → answerOf seed table payload ≡ Given v → Readable seed table payload
 
--- Whatever is offered, a profile that is not enabled or not in the table is not granted: where Grant is given, every profile that the user names, and there is
--- one, is in the table and enabled.
+-- Whatever is offered, a profile that is not enabled or not in the table is not granted: where Grant is given, every
+-- profile that the user names, and there is one, is in the table and enabled.
 pub record InTableAndEnabled (ps : List Profile) (vs : List Variable) : Type 0 where
   pub one : NamedWith (λ p. T (Profiles.enabled p)) ps vs
   pub every : (user : List ℕ) (p : Profile) → Named ps vs user p → T (Profiles.enabled p)

@@ -1,4 +1,5 @@
-// Sign-on verdicts: what is right, and the types of an answer. Start with `specs/Verdict.antt`; what is proved of it is in `specs/Theorems.antt`.
+// Sign-on verdicts: what is right, and the types of an answer. Start with `specs/Verdict.antt`; what is proved of it is
+// in `specs/Theorems.antt`.
 
 // A verdict (the specification's own term).
 pub enum Verdict {

@@ -1,4 +1,5 @@
-// What a client offers at sign-on, against the profile of its user. What is right is said in the crate `signon`, in `specs/Attempt.antt`.
+// What a client offers at sign-on, against the profile of its user. What is right is said in the crate `signon`, in
+// `specs/Attempt.antt`.
 ghost use mathlib.Core.Bool.{_&&_};
 ghost use mathlib.Core.Path.{_≡_};
 ghost use lib.ListN.{drop};
@@ -38,8 +39,9 @@ fn des_proved(
     password_check::gives_des(token, user, server_seed, seed, offered)
 }
 
-// Whether what is offered is what the profile at a place of a table gives, under two seeds: a clear password where the client's seed is empty or eight zeros,
-// else the substitute by DES, where it is allowed, or by SHA-1. At a place where no record stands, what stands there is read as if it were one.
+// Whether what is offered is what the profile at a place of a table gives, under two seeds: a clear password where the
+// client's seed is empty or eight zeros, else the substitute by DES, where it is allowed, or by SHA-1. At a place where
+// no record stands, what stands there is read as if it were one.
 pub fn is_proved(
     server_seed: &[u8],
     table: &[u8],

@@ -1,4 +1,5 @@
--- The reading of a payload into room for the largest: what it answers, and that what it read lies within the room. Assumes nothing.
+-- The reading of a payload into room for the largest: what it answers, and that what it read lies within the room.
+-- Assumes nothing.
 use mathlib.Core.Path.{_≡_, refl, sym, ap, subst, _∙_}
 use mathlib.Core.List.{List}
 use Prim.Native.Nat.{ℕ, _*_, _≤_}

@@ -1,5 +1,5 @@
--- What is proved of response records: for a good system name and a good device name, and of the two that RFC 4777 prints. The proofs are in
--- `proofs/Records.antt`.
+-- What is proved of response records: for a good system name and a good device name, and of the two that RFC 4777
+-- prints. The proofs are in `proofs/Records.antt`.
 use mathlib.Core.Path.{_≡_}
 use mathlib.Core.Bool.{Bool, true, false}
 use mathlib.Core.List.{List, [], _∷_, _++_}
@@ -34,7 +34,8 @@ pub record Responds (fault : Bool) (v : Verdict) (system device r : List ℕ) : 
   -- it has 73 bytes, and its first two say so
   pub size : length r ≡ 73
   pub says : take 2 r ≡ bytes 2 73
-  -- in bytes 20 to 27 the system name, in bytes 28 to 37 the device name, each in EBCDIC with blanks after it, and zeros after them
+  -- in bytes 20 to 27 the system name, in bytes 28 to 37 the device name, each in EBCDIC with blanks after it, and
+  -- zeros after them
   pub systemName : take 8 (drop 20 r) ≡ ebcdicOf system ++ replicate (8 - length system) 0x40
   pub deviceName : take 10 (drop 28 r) ≡ ebcdicOf device ++ replicate (10 - length device) 0x40
   pub tail : drop 38 r ≡ replicate 35 0
@@ -55,7 +56,8 @@ ResponsesAreRight =
     (fault : Bool) (v : Verdict) (system device : List ℕ) → T (isName systemLimit system) → T (isName deviceLimit device)
     → Responds fault v system device (responseOf fault v system device)
 
--- The two records of RFC 4777, 10.1 and 10.2, in the rows of figures 1 and 2: a session that has started, and a device that is not available.
+-- The two records of RFC 4777, 10.1 and 10.2, in the rows of figures 1 and 2: a session that has started, and a device
+-- that is not available.
 pub record Figures : Type 0 where
   pub first : responseOf false Grant (ascii "TARGET") (ascii "PCPRINTER")
       ≡ bytes 32 0x004912A090000560060020C0003D0000C9F9F0F2E3C1D9C7C5E34040D7C3D7D9

@@ -1,4 +1,5 @@
--- What the writer of response records answers, and what it leaves in the buffer that it is lent: 36 for either name, and 4 last.
+-- What the writer of response records answers, and what it leaves in the buffer that it is lent: 36 for either name,
+-- and 4 last.
 use mathlib.Core.Bool.{Bool, not}
 use mathlib.Core.List.{List}
 use Prim.Native.Nat.{ℕ}

@@ -80,7 +80,8 @@ fn put_fields(code: [u8; 4], system: &[u8], device: &[u8], out: &mut [u8])
     octets::put(&[0u8; 35], out, 38);
 }
 
-// Writes the record to the front of `out`. 36 for a bad device or system name, 4 where `out` is too short; a refusal leaves `out` as it was.
+// Writes the record to the front of `out`. 36 for a bad device or system name, 4 where `out` is too short; a refusal
+// leaves `out` as it was.
 pub fn response(
     device_fault: bool,
     verdict: Verdict,

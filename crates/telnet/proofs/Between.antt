@@ -1,5 +1,6 @@
--- A record is all data up to the next end-of-record, and reading goes on after it (`record-is-all-data`); written, it is read back
--- (`record-reads-back`): the theorems `Theorems.RecordIsAllData` and `Theorems.RecordReadsBack`. Assumes nothing.
+-- A record is all data up to the next end-of-record, and reading goes on after it (`record-is-all-data`); written, it
+-- is read back (`record-reads-back`): the theorems `Theorems.RecordIsAllData` and `Theorems.RecordReadsBack`. Assumes
+-- nothing.
 use mathlib.Core.Path.{_≡_, refl, sym, ap, _∙_}
 use mathlib.Core.Bool.{Bool, true, false, not}
 use mathlib.Core.List.{List, [], _∷_, _++_, append-nil}

@@ -1,5 +1,5 @@
--- Writing what was read without refusal gives the bytes (`writes-back`), and reading what was written gives the events (`reads-back`):
--- the theorems `Theorems.WritesBack` and `Theorems.ReadsBack`. Assumes nothing.
+-- Writing what was read without refusal gives the bytes (`writes-back`), and reading what was written gives the events
+-- (`reads-back`): the theorems `Theorems.WritesBack` and `Theorems.ReadsBack`. Assumes nothing.
 use mathlib.Core.Path.{_≡_, refl, _∙_}
 use mathlib.Core.Bool.{Bool, true, false, not, _&&_, _||_}
 use mathlib.Core.List.{List, [], _∷_, _++_, append-nil, append-assoc}

@@ -1,5 +1,5 @@
--- Bytes are a stretch of data, doubled, and what stops it (`stretch`); the reading goes through a doubled stretch as one piece (`absorb`).
--- Assumes nothing.
+-- Bytes are a stretch of data, doubled, and what stops it (`stretch`); the reading goes through a doubled stretch as
+-- one piece (`absorb`). Assumes nothing.
 use mathlib.Core.Path.{_≡_, refl, ap, _∙_}
 use mathlib.Core.Bool.{Bool, true, false}
 use mathlib.Core.List.{List, [], _∷_, _++_, append-nil}

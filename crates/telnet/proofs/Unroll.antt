@@ -1,5 +1,5 @@
--- The whole reading, a step a byte, is the reading of one event after another (`unrolled`, the theorem `Theorems.Unrolled`).
--- Assumes nothing.
+-- The whole reading, a step a byte, is the reading of one event after another (`unrolled`, the theorem
+-- `Theorems.Unrolled`). Assumes nothing.
 use mathlib.Core.Path.{_≡_, refl, sym, ap, _∙_, subst⁻¹}
 use mathlib.Core.Bool.{Bool, true, false}
 use mathlib.Core.List.{List, [], _∷_, _++_, append-nil, append-assoc}

@@ -1,5 +1,5 @@
--- What was read is writable (`read-is-writable`, the theorem `Theorems.ReadIsWritable`): each step of the reading completes writable events only, and
--- keeps a payload within its limit. Assumes nothing.
+-- What was read is writable (`read-is-writable`, the theorem `Theorems.ReadIsWritable`): each step of the reading
+-- completes writable events only, and keeps a payload within its limit. Assumes nothing.
 use mathlib.Core.Path.{_≡_, refl}
 use mathlib.Core.Bool.{Bool, true, false, not, _&&_, _||_}
 use mathlib.Core.List.{List, [], _∷_, _++_}

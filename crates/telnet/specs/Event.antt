@@ -1,5 +1,5 @@
--- The events of a Telnet line as values that hold what they carry (specification, "Framing"; RFC 854, "TELNET COMMAND STRUCTURE"; RFC 855;
--- RFC 885). Numbers stand for bytes.
+-- The events of a Telnet line as values that hold what they carry (specification, "Framing"; RFC 854, "TELNET COMMAND
+-- STRUCTURE"; RFC 855; RFC 885). Numbers stand for bytes.
 use Prim.Native.Nat.{ℕ}
 use mathlib.Core.Bool.{_||_}
 use mathlib.Core.List.{List, []}
@@ -41,8 +41,8 @@ pub data Event : Type 0 where
   negotiation : Verb → ℕ → Event
   subnegotiation : ℕ → List ℕ → Event
 
--- what a byte after a 255 that is not doubled begins: refused is "a byte below 239, or 240"; 250 opens a subnegotiation, 251 to 254 are
--- the option commands, the others are simple commands
+-- what a byte after a 255 that is not doubled begins: refused is "a byte below 239, or 240"; 250 opens a
+-- subnegotiation, 251 to 254 are the option commands, the others are simple commands
 unfoldable pub lead : ℕ → Lead
 lead c =
     if ltb c eor || eqb c se then Faulty else

@@ -1,4 +1,5 @@
--- Records: all data between two end-of-record events (specification, "Framing"; RFC 885). "Record" is the specification's own term.
+-- Records: all data between two end-of-record events (specification, "Framing"; RFC 885). "Record" is the
+-- specification's own term.
 use Prim.Native.Nat.{ℕ, _+_}
 use mathlib.Core.Bool.{Bool, false}
 use mathlib.Core.List.{List, [], _∷_, _++_}

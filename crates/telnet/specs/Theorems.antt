@@ -1,6 +1,7 @@
--- What holds of every list of events and of every list of bytes (specification, "Framing": "Over lists of writable events with no two runs
--- adjacent, reading what was written gives the list; writing what was read without refusal gives the bytes"). The proofs are in
--- `proofs/RoundTrip.antt`, `proofs/Writable.antt`, `proofs/Unroll.antt`, `proofs/Between.antt` and `proofs/Faults.antt`.
+-- What holds of every list of events and of every list of bytes (specification, "Framing": "Over lists of writable
+-- events with no two runs adjacent, reading what was written gives the list; writing what was read without refusal
+-- gives the bytes"). The proofs are in `proofs/RoundTrip.antt`, `proofs/Writable.antt`, `proofs/Unroll.antt`,
+-- `proofs/Between.antt` and `proofs/Faults.antt`.
 use mathlib.Core.Path.{_≡_}
 use mathlib.Core.Bool.{Bool, true, false, not, _&&_}
 use mathlib.Core.List.{List, [], _∷_, _++_}
@@ -68,7 +69,8 @@ RecordIsAllData =
 abbrev pub RecordReadsBack : Type 0
 RecordReadsBack = (d bs : List ℕ) → recordOf (doubled d ++ iac ∷ eor ∷ bs) ≡ complete d (length (doubled d) + 2)
 
--- "the first met from left to right": a fault stays whatever comes after it in the bytes. 1 is no such fault: it is told where the bytes end.
+-- "the first met from left to right": a fault stays whatever comes after it in the bytes. 1 is no such fault: it is
+-- told where the bytes end.
 pub record FaultStays (bs more : List ℕ) (n : ℕ) : Type 0 where
   -- of one event
   pub event : eventOf bs ≡ refused n → eventOf (bs ++ more) ≡ refused n

@@ -1,5 +1,5 @@
--- The whole reading of a stream: its events in order, and how it ended. It takes one step for each byte, so that a stream may be
--- cut anywhere; `Theorems.Unrolled` says that it is the reading of one event after another.
+-- The whole reading of a stream: its events in order, and how it ended. It takes one step for each byte, so that a
+-- stream may be cut anywhere; `Theorems.Unrolled` says that it is the reading of one event after another.
 use Prim.Native.Nat.{ℕ}
 use mathlib.Core.List.{List, [], _∷_, _++_}
 use lib.Dec.{eqb, ltb}

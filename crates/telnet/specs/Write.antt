@@ -1,4 +1,5 @@
--- Writing events (specification, "Framing", "The writer is the inverse"; RFC 854: "IAC .. must be doubled" as data; RFC 855: and in parameters).
+-- Writing events (specification, "Framing", "The writer is the inverse"; RFC 854: "IAC .. must be doubled" as data; RFC
+-- 855: and in parameters).
 use Prim.Native.Nat.{ℕ}
 use mathlib.Core.Bool.{Bool, true, false, _&&_, _||_}
 use mathlib.Core.List.{List, [], _∷_, _++_}

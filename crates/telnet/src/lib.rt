@@ -1,6 +1,6 @@
-// Telnet: the events and records of a line. This crate has what is right, and no function: start with `specs/Event.antt`, `specs/Write.antt` and
-// `specs/Read.antt`. The code is in `telnet_data`, `telnet_lead`, `telnet_reader`, `telnet_records`,
-// `telnet_writer`, `telnet_line` and `telnet_listing`.
+// Telnet: the events and records of a line. This crate has what is right, and no function: start with
+// `specs/Event.antt`, `specs/Write.antt` and `specs/Read.antt`. The code is in `telnet_data`, `telnet_lead`,
+// `telnet_reader`, `telnet_records`, `telnet_writer`, `telnet_line` and `telnet_listing`.
 
 // The option commands.
 pub enum Verb {
@@ -10,7 +10,8 @@ pub enum Verb {
     Dont,
 }
 
-// What a byte after a 255 begins: nothing that Telnet has, a subnegotiation, an option command, or a simple command that it is itself.
+// What a byte after a 255 begins: nothing that Telnet has, a subnegotiation, an option command, or a simple command
+// that it is itself.
 pub enum Lead {
     Faulty,
     Opens,

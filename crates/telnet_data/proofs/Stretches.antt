@@ -1,4 +1,5 @@
--- The laws of a stretch: it is one piece after another, plain bytes or a doubled 255, and ends where neither stands. Assumes nothing.
+-- The laws of a stretch: it is one piece after another, plain bytes or a doubled 255, and ends where neither stands.
+-- Assumes nothing.
 use mathlib.Core.Path.{_≡_, refl, sym, ap, _∙_}
 use mathlib.Core.Bool.{Bool, true, false, _&&_}
 use mathlib.Core.List.{List, [], _∷_, _++_, append-assoc, append-nil}

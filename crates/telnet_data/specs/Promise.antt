@@ -1,4 +1,5 @@
--- What each function of this crate answers, and what it leaves in the buffer that it is lent: for every line, place and room.
+-- What each function of this crate answers, and what it leaves in the buffer that it is lent: for every line, place and
+-- room.
 use Prim.Native.Nat.{ℕ, _+_, _-_}
 use mathlib.Core.List.{List}
 use lib.ListN.{length, take, drop}

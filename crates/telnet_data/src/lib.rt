@@ -1,5 +1,5 @@
-// The scanning of data: a stretch of bytes of a line in which each 255 is doubled. What is answered, and left in a buffer, is said in
-// `specs/Promise.antt`.
+// The scanning of data: a stretch of bytes of a line in which each 255 is doubled. What is answered, and left in a
+// buffer, is said in `specs/Promise.antt`.
 ghost use mathlib.Core.Path.{_≡_};
 ghost use Prim.Native.Nat.{_≤_, min};
 ghost use lib.ListN.{length, drop};
@@ -70,8 +70,8 @@ fn copy_plain(s: &[u8], at: usize, out: &mut [u8], to: usize) -> usize
     n
 }
 
-// Copies the stretch of data at a place, each doubled 255 as one, to a place of the buffer, or as much of it as there is room for: how many bytes were
-// copied, and the place of the line after them.
+// Copies the stretch of data at a place, each doubled 255 as one, to a place of the buffer, or as much of it as there
+// is room for: how many bytes were copied, and the place of the line after them.
 pub fn copy_run(s: &[u8], at: usize, out: &mut [u8], to: usize) -> Extent
     ensures { λ r. ⌜ outcome r (now (out .exit)) ≡ copyRun (now (s .entry)) at (now (out .entry)) to ⌝ }
 {

@@ -1,5 +1,5 @@
--- A line that is handed back in 67 bytes has no more than these: its zeros fill what it leaves, so the bytes are as many as the longer of the two.
--- Assumes nothing.
+-- A line that is handed back in 67 bytes has no more than these: its zeros fill what it leaves, so the bytes are as
+-- many as the longer of the two. Assumes nothing.
 use mathlib.Core.Path.{_≡_, ap, _∙_}
 use mathlib.Core.Bool.{Bool}
 use mathlib.Core.List.{List}

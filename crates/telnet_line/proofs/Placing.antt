@@ -1,4 +1,5 @@
--- `putFront` in its two cases: the text fits, or it does not; and what is written lies within the buffer. Assumes nothing.
+-- `putFront` in its two cases: the text fits, or it does not; and what is written lies within the buffer. Assumes
+-- nothing.
 use mathlib.Core.Path.{_≡_, ap, _∙_}
 use mathlib.Core.List.{List}
 use mathlib.Core.Logic.{⊎-elim}

@@ -1,5 +1,5 @@
--- The laws of `Put`: nothing, what is put after a text, two texts one after the other, a text within a wider bound, and a byte after
--- or before a text. Assumes nothing.
+-- The laws of `Put`: nothing, what is put after a text, two texts one after the other, a text within a wider bound, and
+-- a byte after or before a text. Assumes nothing.
 use mathlib.Core.Path.{_≡_, refl, sym, _∙_}
 use mathlib.Core.List.{List, [], _∷_, _++_}
 use Prim.Native.Nat.{ℕ, _+_, _≤_, _<_}

@@ -1,4 +1,5 @@
--- The line of one event (specification, the end of "Worked lines of the line"): its place and what it is, or how the stream ended.
+-- The line of one event (specification, the end of "Worked lines of the line"): its place and what it is, or how the
+-- stream ended.
 use Prim.Native.Nat.{ℕ}
 use mathlib.Core.List.{List, _++_}
 use lib.Dec.{eqb}
@@ -29,7 +30,8 @@ verbName Dont = ascii "DONT"
 unfoldable pub commandText : ℕ → List ℕ
 commandText c = if eqb c eor then ascii "EOR" else said (ascii "CMD") c
 
--- DATA length; a simple command; an option command's name and option; SUB option length: by the kind, and the length of what is carried
+-- DATA length; a simple command; an option command's name and option; SUB option length: by the kind, and the length of
+-- what is carried
 unfoldable pub text : Kind → ℕ → List ℕ
 text Data n = said (ascii "DATA") n
 text (Command c) n = commandText c

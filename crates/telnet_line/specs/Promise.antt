@@ -1,5 +1,5 @@
--- What the public functions answer, and what they leave in the buffer that they are lent (specification, the end of "Worked lines of the
--- line", and refusal 4: "a lent buffer or list is too short for the whole answer").
+-- What the public functions answer, and what they leave in the buffer that they are lent (specification, the end of
+-- "Worked lines of the line", and refusal 4: "a lent buffer or list is too short for the whole answer").
 use mathlib.Core.List.{List}
 use Prim.Native.Nat.{ℕ}
 use lib.Dec.{ltb}

@@ -1,5 +1,6 @@
-// The text of a line: what it says is found by value, and its pieces are then put one after the other. Each function that puts a piece
-// answers the place after it, and says how many bytes that can be at most: 20 for a numeral, 45 for what is said, 67 for a line.
+// The text of a line: what it says is found by value, and its pieces are then put one after the other. Each function
+// that puts a piece answers the place after it, and says how many bytes that can be at most: 20 for a numeral, 45 for
+// what is said, 67 for a line.
 ghost use mathlib.Core.Path.{_≡_};
 ghost use mathlib.Core.List.{_++_};
 ghost use Prim.Native.Nat.{_+_, _≤_};
@@ -89,7 +90,6 @@ fn verb_word(verb: Verb) -> Word
     }
 }
 
-// A word alone.
 fn bare(word: Word) -> Phrase
     ensures { λ r. ⌜ r ≡ alone word ⌝ }
 {

@@ -1,5 +1,5 @@
--- The lines from a place on, turn by turn: the line of what stands there, and then those from the next place on, if there is one.
--- Assumes nothing.
+-- The lines from a place on, turn by turn: the line of what stands there, and then those from the next place on, if
+-- there is one. Assumes nothing.
 use mathlib.Core.Path.{_≡_, refl, sym, ap, ap₂, _∙_, subst}
 use mathlib.Core.List.{List, [], _++_, append-nil}
 use Prim.Native.Nat.{ℕ, _+_, _≤_, _<_}

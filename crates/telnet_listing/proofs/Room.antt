@@ -1,5 +1,5 @@
--- What is printed fits the room (`fits`, the theorem `Printed.Fits`): line by line, against the bytes of each event. `printed` in its two
--- cases. Assumes nothing.
+-- What is printed fits the room (`fits`, the theorem `Printed.Fits`): line by line, against the bytes of each event.
+-- `printed` in its two cases. Assumes nothing.
 use mathlib.Core.Path.{_≡_, refl, sym, ap, _∙_}
 use mathlib.Core.List.{List, [], _∷_}
 use mathlib.Core.Logic.{⊎-elim}

@@ -1,5 +1,5 @@
--- The listing of a stream (specification, the end of "Worked lines of the line"): a line for each event, with its place and what it is,
--- and one for how the stream ended.
+-- The listing of a stream (specification, the end of "Worked lines of the line"): a line for each event, with its place
+-- and what it is, and one for how the stream ended.
 use Prim.Native.Nat.{ℕ, _+_}
 use mathlib.Core.List.{List, [], _∷_, _++_}
 use lib.ListN.{length}

@@ -1,5 +1,5 @@
--- What the listing program prints (specification, the end of "Worked lines of the line": "reads standard input, at most 65,536 bytes (else it
--- prints only TOO LONG)"), and how long that can be. `proofs/Room.antt` has the proof.
+-- What the listing program prints (specification, the end of "Worked lines of the line": "reads standard input, at most
+-- 65,536 bytes (else it prints only TOO LONG)"), and how long that can be. `proofs/Room.antt` has the proof.
 use mathlib.Core.List.{List}
 use Prim.Native.Nat.{ℕ, _+_, _*_, _≤_}
 use lib.Dec.{ltb}
@@ -18,7 +18,8 @@ limit = 65536
 unfoldable pub printed : List ℕ → List ℕ
 printed bs = if ltb limit (length bs) then ascii "TOO LONG\n" else listing bs
 
--- room for it: no event's line is longer than 13 times the bytes of the event, and the line that ends the listing has at most 16 bytes
+-- room for it: no event's line is longer than 13 times the bytes of the event, and the line that ends the listing has
+-- at most 16 bytes
 abbrev pub room : ℕ
 room = 13 * limit + 16
 

@@ -1,4 +1,5 @@
--- The worked stream of the specification, at the end of "Worked lines of the line", and its listing. `proofs/Sample.antt` has the proof.
+-- The worked stream of the specification, at the end of "Worked lines of the line", and its listing.
+-- `proofs/Sample.antt` has the proof.
 use mathlib.Core.Path.{_≡_}
 use mathlib.Core.List.{List, [], _∷_}
 use Prim.Native.Nat.{ℕ}

@@ -1,5 +1,5 @@
-// The listing of a stream: a line for each event, with its place, and one for how the stream ended. What is right is said in `specs/`:
-// start with `Listing.antt`.
+// The listing of a stream: a line for each event, with its place, and one for how the stream ended. What is right is
+// said in `specs/`: start with `Listing.antt`.
 ghost use mathlib.Core.Path.{_≡_};
 ghost use Prim.Native.Nat.{_≤_};
 ghost use lib.ListN.{length};
@@ -11,7 +11,7 @@ ghost use Rattle.telnet_listing.specs.near.Sized.{sized};
 use telnet_line::Listed;
 use telnet_reader::Answer;
 
-// How many bytes may come, and room for what is printed for so many.
+// How many bytes may come, and room for what is printed for them.
 pub const LIMIT: usize = 65536;
 
 pub const ROOM: usize = 13 * LIMIT + 16;
@@ -94,7 +94,8 @@ pub fn list(s: &[u8], out: &mut [u8]) -> Listed
     }
 }
 
-// What the listing program prints for its input: at the front, with its length. `ROOM` is enough, so there is no refusal.
+// What the listing program prints for its input: at the front, with its length. `ROOM` is enough, so there is no
+// refusal.
 pub fn print(input: &[u8], out: &mut [u8; ROOM]) -> usize
     ensures { λ r. ⌜ outcome r (now (out .exit)) ≡ atFront (printed (now (input .entry))) (now (out .entry)) ⌝ }
 {

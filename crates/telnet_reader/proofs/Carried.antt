@@ -29,8 +29,8 @@ use Rattle.telnet_reader.proofs.Places.{look-run}
 use Rattle.telnet_reader.specs.Promise.{answered, lookAt, delivered, readAt}
 use Rattle.refusal.specs.Refusal.{noRoom, pastTheEnd}
 
--- an event that stands at the front: it takes at least one byte and none past the end, what it carries is the stretch after its lead-in,
--- and its data, if any, the stretch at the front
+-- an event that stands at the front: it takes at least one byte and none past the end, what it carries is the stretch
+-- after its lead-in, and its data, if any, the stretch at the front
 pub record Stands (bs : List ℕ) (e : Event) : Type 0 where
   pub carried-is : carriedBytes e ≡ undoubled (drop (leadIn (kind e)) bs)
   pub data-is : dataOf e ≡ undoubled bs

@@ -1,5 +1,6 @@
--- What each function of this crate answers, and what it leaves in the buffer that it is lent: for every input, place and room, with the
--- refusals in the specification's order (5 first; then those of the line, from left to right; 4 last).
+-- What each function of this crate answers, and what it leaves in the buffer that it is lent: for every input, place
+-- and room, with the refusals in the specification's order (5 first; then those of the line, from left to right; 4
+-- last).
 use Prim.Native.Nat.{ℕ, _+_}
 use mathlib.Core.List.{List}
 use lib.Dec.{ltb}

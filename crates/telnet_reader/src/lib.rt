@@ -1,5 +1,5 @@
-// Reading one event at a place of a line. The caller owns the buffer; nothing is kept between calls. What is right is said in the crate
-// `telnet`; what is answered, and left in the buffer, in `specs/Promise.antt`.
+// Reading one event at a place of a line. The caller owns the buffer; nothing is kept between calls. What is right is
+// said in the crate `telnet`; what is answered, and left in the buffer, in `specs/Promise.antt`.
 ghost use mathlib.Core.Path.{_≡_};
 ghost use Prim.Native.Nat.{_+_, _-_, _<_, _^_};
 ghost use lib.Dec.{leb};
@@ -12,7 +12,8 @@ use telnet::Kind;
 use telnet::Lead;
 use telnet::Verb;
 
-// What stands at a place: nothing more, an event with the number of bytes that it carries and the place after it, or a refusal.
+// What stands at a place: nothing more, an event with the number of bytes that it carries and the place after it, or a
+// refusal.
 pub enum Answer {
     End,
     Found {
@@ -147,7 +148,7 @@ fn deliver(s: &[u8], at: usize, out: &mut [u8]) -> Answer
     }
 }
 
-// Whether a buffer of so many bytes has room for all that is left of a line.
+// Whether a buffer of `room` bytes has room for all that is left of a line.
 fn holds_rest(s: &[u8], at: usize, room: usize) -> bool
     ensures { λ r. ⌜ r ≡ leb (length (now (s .entry)) - at) room ⌝ }
 {
@@ -157,8 +158,8 @@ fn holds_rest(s: &[u8], at: usize, room: usize) -> bool
     s.len() - at <= room
 }
 
-// The event at a place, with the bytes that it carries copied to the front of the buffer. A run is found and copied in one pass where there is room for all
-// that is left of the input.
+// The event at a place, with the bytes that it carries copied to the front of the buffer. A run is found and copied in
+// one pass where there is room for all that is left of the input.
 pub fn read(s: &[u8], at: usize, out: &mut [u8]) -> Answer
     ensures { λ r. ⌜ outcome r (now (out .exit)) ≡ readAt (now (s .entry)) at (now (out .entry)) ⌝ }
 {

@@ -1,5 +1,6 @@
-// Reading one record from a place of a line on: the data of all events up to an end-of-record. The caller owns the buffer; nothing is kept
-// between calls. What is right is said in the crate `telnet`; what is answered, and left in the buffer, in `specs/Promise.antt`.
+// Reading one record from a place of a line on: the data of all events up to an end-of-record. The caller owns the
+// buffer; nothing is kept between calls. What is right is said in the crate `telnet`; what is answered, and left in the
+// buffer, in `specs/Promise.antt`.
 ghost use mathlib.Core.Path.{_≡_};
 ghost use Prim.Native.Nat.{_≤_};
 ghost use lib.ListN.{length};

@@ -1,5 +1,5 @@
--- The laws that each way out of the writer cites: doubling as a mark, stores in a row, and what an event's writing answers.
--- Assumes nothing.
+-- The laws that each way out of the writer cites: doubling as a mark, stores in a row, and what an event's writing
+-- answers. Assumes nothing.
 use mathlib.Core.Path.{_≡_, refl, sym, ap, _∙_}
 use mathlib.Core.Bool.{Bool, true, false}
 use mathlib.Core.Logic.{⊎-elim}

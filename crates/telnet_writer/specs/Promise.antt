@@ -1,5 +1,5 @@
--- What the writer answers, and what it leaves in the buffer that it is lent: for every event and room, with the refusals in the specification's
--- order: 7 or 3, and 4 last.
+-- What the writer answers, and what it leaves in the buffer that it is lent: for every event and room, with the
+-- refusals in the specification's order: 7 or 3, and 4 last.
 use Prim.Native.Nat.{ℕ}
 use mathlib.Core.List.{List}
 use lib.Dec.{ltb}

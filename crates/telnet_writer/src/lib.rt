@@ -1,5 +1,5 @@
-// Writing events as the bytes of a line. What is right is said in the crate `telnet`; what is answered, and left in the buffer, in
-// `specs/Promise.antt`.
+// Writing events as the bytes of a line. What is right is said in the crate `telnet`; what is answered, and left in the
+// buffer, in `specs/Promise.antt`.
 ghost use mathlib.Core.Path.{_≡_};
 ghost use Rattle.telnet.specs.Event.{event, code, run, command, negotiation, subnegotiation};
 ghost use Rattle.telnet.specs.Write.{isSimple};
@@ -97,7 +97,8 @@ fn write_subnegotiation(option: u8, payload: &[u8], out: &mut [u8]) -> Written
     Written::Wrote(end + 2)
 }
 
-// Writes an event to the front of the buffer; the bytes that it carries stand in `payload`. A refusal leaves the buffer as it was.
+// Writes an event to the front of the buffer; the bytes that it carries stand in `payload`. A refusal leaves the buffer
+// as it was.
 pub fn write(kind: Kind, payload: &[u8], out: &mut [u8]) -> Written
     ensures { λ r. ⌜ outcome r (now (out .exit)) ≡ writeOf (event kind (now (payload .entry))) (now (out .entry)) ⌝ }
 {

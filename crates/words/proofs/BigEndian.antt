@@ -1,6 +1,5 @@
--- The laws of bytes: how many they are, that they say nothing of what is above them, that they stand for the number they are of, and the
--- number of one byte more.
--- Assumes nothing.
+-- The laws of bytes: how many they are, that they say nothing of what is above them, that they stand for the number
+-- they are of, and the number of one byte more. Assumes nothing.
 use mathlib.Core.Path.{_≡_, refl, sym, ap, ap₂, _∙_}
 use mathlib.Core.List.{List, [], _∷_, _++_}
 use Prim.Native.Nat.{ℕ, zero, suc, _+_, _*_, _/_, _%_, _^_, _≤_, _<_}

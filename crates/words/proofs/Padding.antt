@@ -1,5 +1,5 @@
--- The padding argument, over the sizes: the number of zero bits is the standard's, a padded message fills whole blocks, and how many.
--- Assumes nothing.
+-- The padding argument, over the sizes: the number of zero bits is the standard's, a padded message fills whole blocks,
+-- and how many. Assumes nothing.
 use mathlib.Core.Path.{_≡_, sym, _∙_}
 use mathlib.Core.List.{List}
 use Prim.Native.Nat.{ℕ, suc, _+_, _-_, _*_, _/_, _%_, _≤_, _<_}
@@ -25,7 +25,8 @@ zeros-solve B L ℓ h g =
     let e : ℓ + 1 + zeroBits B L ℓ ≡ (ℓ + L) / B * B + (B - L) = omega (arith, filled B L ℓ b) in
     rw e (digits-mod ((ℓ + L) / B) l)
 
--- another solution with the length after it ends at a block's end too, after the blocks that the message and the length alone fill
+-- another solution with the length after it ends at a block's end too, after the blocks that the message and the length
+-- alone fill
 zeros-least : (B L ℓ : ℕ) → L ≤ B → (j : ℕ) → (ℓ + 1 + j) % B ≡ B - L → zeroBits B L ℓ ≤ j
 unfolding zeroBits
 zeros-least B L ℓ g j e =

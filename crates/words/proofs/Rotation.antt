@@ -1,4 +1,5 @@
--- A rotation whose right shift is taken modulo the width, so that it is none where the left one is none, is `rotl`. Assumes nothing.
+-- A rotation whose right shift is taken modulo the width, so that it is none where the left one is none, is `rotl`.
+-- Assumes nothing.
 use mathlib.Core.Path.{_≡_}
 use Prim.Native.Nat.{ℕ, zero, suc, _-_, _*_, _/_, _%_, _^_, _<_}
 use native.Mathlib.Nat.{sub-zero, mod-self, mod-eq-of-lt, mul-one, div-one, div-eq-of-lt}

@@ -1,5 +1,5 @@
--- The last blocks of a padded message: they fit two blocks, written into zeros they are `tail`, and `tail` is what is left of the
--- message with its padding. Assumes nothing.
+-- The last blocks of a padded message: they fit two blocks, written into zeros they are `tail`, and `tail` is what is
+-- left of the message with its padding. Assumes nothing.
 use mathlib.Core.Path.{_≡_, refl, sym, ap, _∙_}
 use mathlib.Core.List.{List, _∷_, _++_, append-assoc}
 use Prim.Native.Nat.{ℕ, suc, _+_, _-_, _*_, _/_, _%_, _≤_, _<_}

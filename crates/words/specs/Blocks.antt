@@ -1,4 +1,5 @@
--- A list cut into pieces of one length, as section 5.2 of FIPS 180-4 parses a padded message into blocks and a block into words.
+-- A list cut into pieces of one length, as section 5.2 of FIPS 180-4 parses a padded message into blocks and a block
+-- into words.
 use Prim.Native.Nat.{ℕ, zero, suc, _/_}
 use mathlib.Core.List.{List, [], _∷_, map}
 use lib.ListN.{length, take, drop}

@@ -1,4 +1,5 @@
--- Words of w bits, as numbers below 2 ^ w, and the operations that the secure hashes share: FIPS 180-4, sections 2.2.2, 3.2 and 4.1.
+-- Words of w bits, as numbers below 2 ^ w, and the operations that the secure hashes share: FIPS 180-4, sections 2.2.2,
+-- 3.2 and 4.1.
 use Prim.Native.Nat.{ℕ, _+_, _-_, _*_, _/_, _%_, _^_}
 use lib.Bits.{bitAnd, bitOr, bitXor}
 

@@ -1,4 +1,5 @@
--- `claims::demand_1` promises that every entry point refuses by its own numbers and leaves all as it was. Assumes nothing.
+-- `claims::demand_1` promises that every entry point refuses by its own numbers and leaves all as it was. Assumes
+-- nothing.
 use Rattle.claims.proofs.LineRefusals.{looks, reads, reads-records, writes, lists, receives, requests}
 use Rattle.claims.proofs.SessionRefusals.{session-receives, session-requests, line-receives, line-requests, line-hears}
 use Rattle.claims.proofs.PayloadRefusals.{reads-payloads, reads-lists, writes-payloads, reads-variables, delivers, hands-over}

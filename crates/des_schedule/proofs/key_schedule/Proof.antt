@@ -1,5 +1,5 @@
--- `des_schedule::key_schedule` meets its contract: the round keys made so far, followed by those that C and D still give, are the whole. The
--- measure is `16 - i`. Assumes nothing.
+-- `des_schedule::key_schedule` meets its contract: the round keys made so far, followed by those that C and D still
+-- give, are the whole. The measure is `16 - i`. Assumes nothing.
 use mathlib.Core.Path.{_≡_, refl, sym, ap, _∙_}
 use mathlib.Core.List.{List, [], _∷_, _++_, append-nil, append-assoc}
 use Prim.Native.Nat.{ℕ, _+_, _-_, _*_, _/_, _%_, _^_, _≤_, _<_}

@@ -1,4 +1,5 @@
--- `des_schedule::rotate` meets its contract: what the shift keeps and what comes back have no bit in common. Assumes nothing.
+-- `des_schedule::rotate` meets its contract: what the shift keeps and what comes back have no bit in common. Assumes
+-- nothing.
 use mathlib.Core.Path.{_≡_, _∙_}
 use Prim.Native.Nat.{ℕ, _+_, _-_, _*_, _/_, _%_, _^_, _<_}
 use native.Mathlib.Nat.{add-zero, add-comm, mul-mod-left, lt-of-le-of-lt}

@@ -1,4 +1,5 @@
--- `des_schedule::second_choice` meets its contract: the code is linear, and agrees with the table at each of the 56 bits. Assumes nothing.
+-- `des_schedule::second_choice` meets its contract: the code is linear, and agrees with the table at each of the 56
+-- bits. Assumes nothing.
 use Prim.Native.Nat.{ℕ, _*_, _/_, _%_, _^_}
 use lib.Bits.{bitAnd}
 use Rattle.des.specs.Blocks.{continued, permuted}

@@ -1,5 +1,5 @@
--- `des_schedule::shift_at` meets its contract: a computed test finds each iteration's number to be the standard's, and below 28.
--- Assumes nothing.
+-- `des_schedule::shift_at` meets its contract: a computed test finds each iteration's number to be the standard's, and
+-- below 28. Assumes nothing.
 use Prim.Native.Nat.{ℕ, _-_, _/_, _^_, _≤_}
 use native.Mathlib.Nat.{le-trans}
 use native.Mathlib.Omega.{arith}

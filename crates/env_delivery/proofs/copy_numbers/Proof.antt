@@ -1,5 +1,5 @@
--- `env_delivery::copy_numbers` meets its contract: the numbers from where the loop stands, put there, give the list with all of them. The
--- measure is `length from - i`. Assumes nothing.
+-- `env_delivery::copy_numbers` meets its contract: the numbers from where the loop stands, put there, give the list
+-- with all of them. The measure is `length from - i`. Assumes nothing.
 use mathlib.Core.Path.{_≡_, refl, sym, ap, _∙_}
 use Prim.Native.Nat.{_-_, _≤_}
 use native.Mathlib.Nat.{zero-add}

@@ -1,6 +1,6 @@
--- `env_list::get` meets its contract: a walk of its code. The test comes first; where it holds the slice is looked into and record i is
--- copied out, and where it fails the answer is made of zeros. Both ways out free the locals alike (`ends`), and the slice is owned as it was
--- (`exits`). Assumes nothing.
+-- `env_list::get` meets its contract: a walk of its code. The test comes first; where it holds the slice is looked into
+-- and record i is copied out, and where it fails the answer is made of zeros. Both ways out free the locals alike
+-- (`ends`), and the slice is owned as it was (`exits`). Assumes nothing.
 use mathlib.Core.Path.{_≡_, refl, sym}
 use Prim.Native.Nat.{ℕ, _<_, _^_, _*_}
 use mathlib.Core.List.{List, [], _∷_}
@@ -131,11 +131,13 @@ module _ {M : Type 1} (𝓤 : URA M) (H : Heap 𝓤) (A : Atoms 𝓤) (W : Given
         looks-slice ! tt T.the-row (Is T.the-row) (shows 𝓤 H A T.the-row) vals (LL.tells T.the-type T′.the-laws)
         (LL.copy T.the-type T′.the-copy 𝓤 H A W) ys b o (λ q′.
         elem-out ! T.the-row (Is T.the-row) (shows 𝓤 H A T.the-row) vals (LL.tells T.the-type T′.the-laws) q′ ys i blank b o l (λ g.
-        -- [record i; what it owns; the others; the open borrow; the shared borrow; what its name says; the slice's fact; what i owns; true; _7; …; _6; …]
+        -- [record i; what it owns; the others; the open borrow; the shared borrow; what its name says; the slice's
+        -- fact; what i owns; true; _7; …; _6; …]
         lets ! 9 refl (of-opd ! (load ! (from ! (hop ! (look ! 11 refl) (stop !))) (look-raw ! 0 refl))) (typed 𝓤 H A W found g) $
         lets ! 23 refl (of-opd ! (local ! 9 refl)) (typed 𝓤 H A W found g) $
         elem-back ! T.the-row q′ ys i blank (vals found) b o l $ shuts-slice ! tt T.the-row q′ ys b o $
-        -- [the token; the shared borrow; what its name says; the slice's fact; what i owns; true; _7; …]: put together as it was
+        -- [the token; the shared borrow; what its name says; the slice's fact; what i owns; true; _7; …]: put together
+        -- as it was
         move ! (2 ∷ 1 ∷ []) $ fjoin ! $ move ! (2 ∷ 0 ∷ []) $ fjoin ! $ move ! (0 ∷ 2 ∷ []) $ fjoin ! $ move ! (1 ∷ 2 ∷ []) $ join ! $
         returns-within ! Post refl (look ! 16 refl) $ forget ! 2 refl $ forget ! 4 refl $ forget ! 6 refl $ forget ! 8 refl $ forget ! 10 refl $
         forget ! 12 refl $ forget ! 14 refl $ forget ! 16 refl $

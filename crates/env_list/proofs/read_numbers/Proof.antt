@@ -1,5 +1,5 @@
--- `env_list::read_numbers` meets its contract: the numbers that `read` is lent have room for the records that the list has room for.
--- Assumes nothing.
+-- `env_list::read_numbers` meets its contract: the numbers that `read` is lent have room for the records that the list
+-- has room for. Assumes nothing.
 use mathlib.Core.Path.{_≡_}
 use mathlib.Core.List.{[], append-nil}
 use Prim.Native.Nat.{_*_, _-_}

@@ -1,8 +1,9 @@
--- `env_list::read_records` meets its contract: a walk of its code. It makes a local of 320 numbers and calls three functions, of which it
--- knows the contracts alone: `read_numbers`, to which the local is lent as `&mut`; `count_of`; and `set_all`, to which it is lent as `&`
--- (`Buffer`). The buffer and the list of records go to the first and the last at their own lifetimes, and are not needed after. What the three
--- promise together is `Numbered`, which says what this function promises. A comment in brackets is the context at that point, in its order; a
--- local and what frees it are `_n; …`. Assumes nothing.
+-- `env_list::read_records` meets its contract: a walk of its code. It makes a local of 320 numbers and calls three
+-- functions, of which it knows the contracts alone: `read_numbers`, to which the local is lent as `&mut`; `count_of`;
+-- and `set_all`, to which it is lent as `&` (`Buffer`). The buffer and the list of records go to the first and the last
+-- at their own lifetimes, and are not needed after. What the three promise together is `Numbered`, which says what this
+-- function promises. A comment in brackets is the context at that point, in its order; a local and what frees it are
+-- `_n; …`. Assumes nothing.
 use mathlib.Core.Path.{_≡_, refl, sym, ap, subst, _∙_}
 use Prim.Native.Nat.{ℕ, _≤_, _<_}
 use mathlib.Core.List.{List, [], _∷_}
@@ -207,13 +208,15 @@ module _ {M : Type 1} (𝓤 : URA M) (H : Heap 𝓤) (A : Atoms 𝓤) (W : Given
           move ! (33 ∷ []) $ fsplit ! $ move ! (1 ∷ []) $ fsplit ! $ move ! (1 ∷ []) $ fsplit ! $ move ! (36 ∷ []) $ split ! $ move ! (1 ∷ []) $ split ! $
           move ! (6 ∷ []) $ use1 W (‵ Payload ⊛ ‵ Payload) (shr-slice-copy 𝓤 H A W (named 0) κ₀ u8 .twice p (sp ∷ [])) $ split ! $
           move ! (4 ∷ 2 ∷ 3 ∷ 0 ∷ 1 ∷ 7 ∷ 5 ∷ []) $ move ! (7 ∷ []) $ forgo ! $
-          -- [token; token; token and true; payload; payload; bytes; records; _15; …; _0; …]: the local is filled, and lies in memory
+          -- [token; token; token and true; payload; payload; bytes; records; _15; …; _0; …]: the local is filled, and
+          -- lies in memory
           owned ! usize (Is usize) (uint-makes 𝓤 H A W w64) 0 (vint w64 0 ∷ []) (refl, lit< tt) $
           use1 W (‵ (Array usize size .own (replicate size 0) (copies size (vint w64 0) ∷ []))) (array-repeat 𝓤 H A W usize (uint-copy 𝓤 H A W w64) size 0 (vint w64 0)) $
           peeks ! (Array usize size) (Is (Array usize size)) (shows 𝓤 H A (Array usize size)) (replicate size 0) (copies size (vint w64 0) ∷ []) (λ is-zeros.
           lets ! 30 refl (rep ! size (lit ! tt)) (array-lawful 𝓤 H A W usize (uint-lawful 𝓤 H A W w64) size .typed (replicate size 0) _ is-zeros .0) $
           move ! (30 ∷ 0 ∷ []) $ use2 W (‵ (Lies usize size (replicate size 0) l₄)) (filled usize 𝓤 H A W size l₄ tt 0 (vint w64 0)) $
-          -- [the numbers; token; token; token and true; payload; payload; bytes; records; _15; …; _5; …; what frees _4; _3; …; _0; …]
+          -- [the numbers; token; token; token and true; payload; payload; bytes; records; _15; …; _5; …; what frees _4;
+          -- _3; …; _0; …]
           lets ! 26 refl (addr ! (from ! (fld ! refl (hop ! (look-in ! 33 (sub ! 0 refl (whole !))) (stop !))))) (tt, tt) $
           lets ! 24 refl (agg ! (and-then ! (local ! 26 refl) (and-then ! (field-of ! 33 refl (sub ! 1 refl (whole !))) (no-more !))))
           (tt, (tt, (record { fits = room-x .0 }, tt))) $
@@ -225,7 +228,8 @@ module _ {M : Type 1} (𝓤 : URA M) (H : Heap 𝓤) (A : Atoms 𝓤) (W : Given
           use1 W (later (some (λ (δ : GName). ‵ (MutSlice (named 2) (α ∷ []) usize .own (lent-list l₄ δ (replicate size 0))
           (sliceVal (l₄, 0) size ∷ [])) ⊛ ‵ (flent (α ∷ []) (Held usize size l₄ 0 δ)))))
           (lends usize 𝓤 H A W size l₄ (named 2) (α ∷ []) (replicate size 0) room-size) $ await ! tt $ pick ! (λ δ. split ! $
-          -- [the slice; the lender's part; its token; token; token; token and true; payload; payload; bytes; records; …]
+          -- [the slice; the lender's part; its token; token; token; token and true; payload; payload; bytes; records;
+          -- …]
           nothing ! $ move ! (3 ∷ 0 ∷ []) $ join ! $ move ! (4 ∷ 0 ∷ []) $ join ! $ move ! (3 ∷ 0 ∷ []) $ join ! $
           nothing ! $ owned ! usize (Is usize) (uint-makes 𝓤 H A W w64) room _ (refl, room-y .0) $ fjoin ! $ move ! (2 ∷ 0 ∷ []) $ fjoin ! $
           move ! (6 ∷ 0 ∷ []) $ fjoin ! $ move ! (4 ∷ 0 ∷ []) $ fjoin ! $ move ! (1 ∷ 0 ∷ []) $
@@ -245,15 +249,18 @@ module _ {M : Type 1} (𝓤 : URA M) (H : Heap 𝓤) (A : Atoms 𝓤) (W : Given
           split ! $ move ! (1 ∷ []) $ heard ! (Numbered (p .now) (x .now) room r left ns) (λ told.
           fsplit ! $ forgo ! $ fsplit ! $ fsplit ! $ move ! (1 ∷ []) $ feqL ! (λ same. move ! (1 ∷ []) $ fsplit ! $ fsplit ! $ move ! (1 ∷ []) $
           feqL ! (λ _. move ! (1 ∷ []) $ forgo ! $
-          -- [the numbers' last list; the buffer's; the tokens and the answer; the lender's part; token and true; payload; records; _15; …]
+          -- [the numbers' last list; the buffer's; the tokens and the answer; the lender's part; token and true;
+          -- payload; records; _15; …]
           move ! (2 ∷ []) $ split ! $ split ! $ move ! (1 ∷ []) $ split ! $ move ! (1 ∷ []) $ split ! $ move ! (4 ∷ []) $
-          -- [the answer; the local's token; true; token; token; the numbers' last list; the buffer's; the lender's part; token and true; payload; records; _15; …]
+          -- [the answer; the local's token; true; token; token; the numbers' last list; the buffer's; the lender's
+          -- part; token and true; payload; records; _15; …]
           peeks ! S.the-row (Is S.the-row) (shows 𝓤 H A S.the-row) r (u ∷ []) (λ is.
           land ! (from ! (stop !)) (init ! 31 refl (EL.lawful S.the-type S′.the-laws 𝓤 H A W tt .typed r _ is .0)) $
           -- the lifetime is ended, and the local is there again
           move ! (1 ∷ []) $ lft-end ! tt $ move ! (0 ∷ 7 ∷ 5 ∷ []) $
           use3 W (later (‵ (Lies usize size ns l₄))) (back usize 𝓤 H A W size l₄ (α ∷ []) δ ns) $ await ! tt $
-          -- [the numbers; the answer; true; token; token; the buffer's last list; token and true; payload; records; _15; …]
+          -- [the numbers; the answer; true; token; token; the buffer's last list; token and true; payload; records;
+          -- _15; …]
           lets ! 15 refl (addr ! (from ! (fld ! refl (hop ! (look-in ! 32 (sub ! 0 refl (whole !))) (stop !))))) (tt, tt) $
           lets ! 13 refl (agg ! (and-then ! (local ! 15 refl) (and-then ! (field-of ! 32 refl (sub ! 1 refl (whole !))) (no-more !))))
           (tt, (tt, (record { fits = room-y .0 }, tt))) $
@@ -268,7 +275,8 @@ module _ {M : Type 1} (𝓤 : URA M) (H : Heap 𝓤) (A : Atoms 𝓤) (W : Given
           ⊛ raw (ensured 𝓤 H A count.ended (count.clauses 𝓤 H A mem run) tt (r, tt) tt n)))) (id⊢ 𝓤 _) $ await ! tt $ pick ! (λ n.
           split ! $ move ! (1 ∷ []) $ use1 W (raw (fact 𝓤 (n ≡ countOf r))) (counted r n) $ heard ! (n ≡ countOf r) (λ total. split ! $ forgo ! $
           facts ! usize (Is usize) (shows 𝓤 H A usize) n (w ∷ []) (λ is-n.
-          -- [the answer; the numbers; true; token; token; the buffer's last list; token and true; payload; records; _15; …]
+          -- [the answer; the numbers; true; token; token; the buffer's last list; token and true; payload; records;
+          -- _15; …]
           land ! (from ! (stop !)) (store ! 19 refl (uint-lawful 𝓤 H A W w64 .typed n _ is-n .0)) $
           rewrite ! 19 (λ (v : Val). ‵ (fat fullShare word l₁₀ 0 v)) (ap only (is-n .0)) refl $
           -- `set_all`: the local is shared for a lifetime of the call
@@ -277,7 +285,8 @@ module _ {M : Type 1} (𝓤 : URA M) (H : Heap 𝓤) (A : Atoms 𝓤) (W : Given
           use1 W (later (some (λ (ε : GName). ‵ (ShrSlice (named 1) (β ∷ []) usize .own (lent-list l₄ ε ns) (sliceVal (l₄, 0) size ∷ []))
           ⊛ ‵ (flent (β ∷ []) (Lies usize size ns l₄))))) (shares usize 𝓤 H A W size l₄ (named 1) (β ∷ []) ns room-size) $ await ! tt $
           pick ! (λ ε. split ! $
-          -- [the slice; the lender's part; its token; the answer; true; token; token; the buffer's last list; token and true; payload; records; …]
+          -- [the slice; the lender's part; its token; the answer; true; token; token; the buffer's last list; token and
+          -- true; payload; records; …]
           move ! (8 ∷ []) $ split ! $ move ! (4 ∷ 1 ∷ []) $ join ! $ move ! (1 ∷ 0 ∷ []) $ join ! $
           nothing ! $ owned ! usize (Is usize) (uint-makes 𝓤 H A W w64) n _ (refl, is-n .1) $ fjoin ! $ move ! (2 ∷ 0 ∷ []) $ fjoin ! $
           move ! (9 ∷ 0 ∷ []) $ fjoin ! $ move ! (1 ∷ 0 ∷ []) $
@@ -294,12 +303,14 @@ module _ {M : Type 1} (𝓤 : URA M) (H : Heap 𝓤) (A : Atoms 𝓤) (W : Given
           ⊛ raw (fact 𝓤 (zs .0 ≡ begun ns n (y .now))))) (id⊢ 𝓤 _) $ pick ! (λ zs.
           split ! $ move ! (1 ∷ []) $ heard ! (zs .0 ≡ begun ns n (y .now)) (λ listed.
           fsplit ! $ fsplit ! $ move ! (1 ∷ []) $ feqL ! (λ same′. move ! (1 ∷ []) $ forgo ! $ move ! (1 ∷ []) $ split ! $ move ! (1 ∷ []) $
-          -- [the result; the tokens; the records' last list; the lender's part; the answer; true; token; token; the buffer's last list; payload; _15; …]
+          -- [the result; the tokens; the records' last list; the lender's part; the answer; true; token; token; the
+          -- buffer's last list; payload; _15; …]
           facts ! unit (Is unit) (shows 𝓤 H A unit) o (v ∷ []) (λ is-o.
           land ! (from ! (stop !)) (init ! 17 refl (nothing-lawful 𝓤 H A W .typed o _ is-o .0)) $
           split ! $ move ! (1 ∷ []) $ split ! $ lft-end ! tt $ move ! (0 ∷ 4 ∷ []) $ lent-back ! tt $
           use1 W (‵ (froom (array-type usize size) l₄ 0)) (emptied usize 𝓤 H A W size l₄ ns) $
-          -- [room for _4; true; token; the records' last list; the answer; true; token; token; the buffer's last list; payload; _15; …]
+          -- [room for _4; true; token; the records' last list; the answer; true; token; token; the buffer's last list;
+          -- payload; _15; …]
           lets ! 39 refl (of-opd ! (local ! 30 refl)) (EL.lawful S.the-type S′.the-laws 𝓤 H A W tt .typed r _ is .0) $
           returns ! (look ! 39 refl) $ forget ! 10 refl $ forget ! 12 refl $ forget ! 14 refl $ forget ! 16 refl $ forget ! 18 refl $
           forget ! 20 refl $ forget ! 22 refl $ forget ! 24 refl $ forget ! 26 refl $ forget ! 28 refl $ forget ! 30 refl $ forget ! 33 refl $

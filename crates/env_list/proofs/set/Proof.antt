@@ -1,6 +1,6 @@
--- `env_list::set` meets its contract: a walk of its code. The test comes first; where it holds the record is stored (`Walks.stores`), and
--- where it fails nothing is. Both ways out free the locals alike (`ends`) and leave the slice at a list of the same length (`exits`). Assumes
--- nothing.
+-- `env_list::set` meets its contract: a walk of its code. The test comes first; where it holds the record is stored
+-- (`Walks.stores`), and where it fails nothing is. Both ways out free the locals alike (`ends`) and leave the slice at
+-- a list of the same length (`exits`). Assumes nothing.
 use mathlib.Core.Path.{_≡_, refl}
 use mathlib.Core.Bool.{Bool, true, false, not}
 use Prim.Native.Nat.{ℕ, _<_, _^_, _*_}

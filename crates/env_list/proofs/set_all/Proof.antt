@@ -1,6 +1,7 @@
--- `env_list::set_all` meets its contract: a walk of its code. A turn of the loop calls `record_at`, of which it knows the contract alone,
--- and stores the record (`Walks.stores`); the invariant `At` says that the first k records are set. The slice of numbers is shared: the callee
--- is handed a copy and the token of its lifetime, which comes back. Assumes nothing.
+-- `env_list::set_all` meets its contract: a walk of its code. A turn of the loop calls `record_at`, of which it knows
+-- the contract alone, and stores the record (`Walks.stores`); the invariant `At` says that the first k records are set.
+-- The slice of numbers is shared: the callee is handed a copy and the token of its lifetime, which comes back. Assumes
+-- nothing.
 use mathlib.Core.Path.{_≡_, refl, sym, ap, subst, _∙_}
 use mathlib.Core.Bool.{Bool, not}
 use Prim.Native.Nat.{ℕ, _+_, _-_, _≤_, _<_, _^_, _*_, zero-le}
@@ -145,7 +146,8 @@ module _ {M : Type 1} (𝓤 : URA M) (H : Heap 𝓤) (A : Atoms 𝓤) (W : Given
       En l₀ l₁ l₂ l₃ l₄ l₅ l₆ l₇ l₈ = (tyUnit, l₀) ∷ (slice-type, l₁) ∷ (numbers-type, l₂) ∷ (word, l₃) ∷ (word, l₄) ∷ (tyBool, l₅) ∷ (T′.mir, l₆)
           ∷ (word, l₇) ∷ (tyPtr, l₈) ∷ []
 
-      -- the context before a turn: the list with its first k records set; its borrow; its token; the numbers' token; what the numbers own; the locals
+      -- the context before a turn: the list with its first k records set; its borrow; its token; the numbers' token;
+      -- what the numbers own; the locals
       abbrev At : ℕ → ℕ → ℕ → ℕ → ℕ → ℕ → ℕ → ℕ → ℕ → Upto → List (Item 𝓤)
       At l₀ l₁ l₂ l₃ l₄ l₅ l₆ l₇ l₈ i =
           ‵ (says-list γ (begun (y .now) (i .0) ys)) ∷ ‵ (loan κ (length (begun (y .now) (i .0) ys)) b o γ) ∷ ‵ (flft κ q) ∷ (‵ (flft κ′ q′) ⊛ ‵ ftrue) ∷ ‵ Numbers
@@ -168,7 +170,8 @@ module _ {M : Type 1} (𝓤 : URA M) (H : Heap 𝓤) (A : Atoms 𝓤) (W : Given
           lets ! 8 refl (of-opd ! (lit ! tt)) (tt, record { fits = lit< tt }) $
           -- [_8; …; _0; …; the tokens; what the parameters own]: brought into the invariant's order
           move ! (19 ∷ []) $ fsplit ! $ fsplit ! $ move ! (1 ∷ []) $ fsplit ! $ move ! (3 ∷ []) $ fsplit ! $ move ! (23 ∷ []) $ split ! $
-          -- [token; the numbers' token; what the numbers own; what n owns; the list; the borrow; the slice's fact; _8; …]
+          -- [token; the numbers' token; what the numbers own; what n owns; the list; the borrow; the slice's fact; _8;
+          -- …]
           keep ! (4 ∷ 5 ∷ 0 ∷ 1 ∷ 2 ∷ 7 ∷ 8 ∷ 9 ∷ 10 ∷ 11 ∷ 12 ∷ 13 ∷ 14 ∷ 15 ∷ 16 ∷ 17 ∷ 18 ∷ 19 ∷ 20 ∷ 21 ∷ 22 ∷ 23 ∷ 24 ∷ []) $
           first ! $ blocks ! $ loops ! 𝓣 Nearer Nearer-wf (At l₀ l₁ l₂ l₃ l₄ l₅ l₆ l₇ l₈) (λ i.
           let k : ℕ = i .0 in
@@ -185,13 +188,15 @@ module _ {M : Type 1} (𝓤 : URA M) (H : Heap 𝓤) (A : Atoms 𝓤) (W : Given
           move ! (4 ∷ []) $ use1 W (‵ Numbers ⊛ ‵ Numbers) (shr-slice-copy 𝓤 H A W (named 1) κ′ usize .twice y (s′ ∷ [])) $ split ! $
           nothing ! $ owned ! usize (Is usize) (uint-makes 𝓤 H A W w64) k _ (refl, fits i) $ fjoin ! $ move ! (1 ∷ 0 ∷ []) $ fjoin ! $
           move ! (5 ∷ 0 ∷ []) $ use2 W (raw (RecordAt 𝓤 H A mem run .pre (to k))) (asked k) $
-          -- [what is asked; what the numbers own; the list; the borrow; the token; _8; …; _7; …; _6; …; _5; …; _4; …; _3; …; _2; …; _1; …; _0; …]
+          -- [what is asked; what the numbers own; the list; the borrow; the token; _8; …; _7; …; _6; …; _5; …; _4; …;
+          -- _3; …; _2; …; _1; …; _0; …]
           calls-at ! (fmOf 𝓤 H (W .laws) 𝓣) (RecordAt 𝓤 H A mem run) known (to k) (and-then ! (local ! 17 refl) (and-then ! (local ! 13 refl) (no-more !))) (λ u.
           use1 W (later (some (λ (r : VariableRecord). ((‵ (flft κ′ q′) ⊛ ‵ ftrue) ⊛ ‵ (T.the-row .own r (u ∷ [])))
           ⊛ raw (ensured 𝓤 H A record-at.ended (record-at.clauses 𝓤 H A mem run) (κ′, tt) (y, (k, tt)) tt r)))) (id⊢ 𝓤 _) $ await ! tt $ pick ! (λ r.
           split ! $ move ! (1 ∷ []) $ use1 W (raw (fact 𝓤 (r ≡ recordAt (y .now) k))) (said k r) $ heard ! (r ≡ recordAt (y .now) k) (λ e. split ! $
           move ! (1 ∷ []) $
-          -- [what the result owns; the numbers' token; what the numbers own; the list; the borrow; the token; _8; …; _7; …; _6; …]
+          -- [what the result owns; the numbers' token; what the numbers own; the list; the borrow; the token; _8; …;
+          -- _7; …; _6; …]
           peeks ! T.the-row (Is T.the-row) (shows 𝓤 H A T.the-row) r (u ∷ []) (λ is.
           let told : u ∷ [] ≡ vals r = LL.tells T.the-type T′.the-laws r (u ∷ []) is in
           land ! (from ! (stop !)) (init ! 10 refl (LL.lawful T.the-type T′.the-laws 𝓤 H A W .typed r _ is .0)) $

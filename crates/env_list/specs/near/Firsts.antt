@@ -21,8 +21,8 @@ unfoldable pub countOf : Answer → ℕ
 countOf (Read first count used) = count
 countOf (Refused n) = 0
 
--- an answer, a buffer and numbers as they are left, where a list has room for so many records: with as many records as the answer tells of set in
--- front of any such list, they are what is promised
+-- an answer, a buffer and numbers as they are left: for every list of `room` records, replacing its first `countOf
+-- answer` by those of `numbers` gives `readRecords`
 abbrev pub Numbered : List ℕ → List ℕ → ℕ → Answer → List ℕ → List ℕ → Type 0
 Numbered payload bytes room answer left numbers =
     (list : List VariableRecord) → length list ≡ room

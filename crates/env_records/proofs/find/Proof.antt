@@ -1,5 +1,5 @@
--- `env_records::find` meets its contract. The loop's invariant: the place that the records from i on give is the one that all give. The measure is how many are left.
--- Assumes nothing.
+-- `env_records::find` meets its contract. The loop's invariant: the place that the records from i on give is the one
+-- that all give. The measure is how many are left. Assumes nothing.
 use mathlib.Core.Path.{_≡_, sym, ap, _∙_}
 use mathlib.Core.Bool.{true, false}
 use Prim.Native.Nat.{_*_, _/_, _-_}

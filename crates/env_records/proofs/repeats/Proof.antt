@@ -1,5 +1,5 @@
--- `env_records::repeats` meets its contract. The loop's invariant: there is a repeat among the records from i on if there is one among all. The measure is how many are left.
--- Assumes nothing.
+-- `env_records::repeats` meets its contract. The loop's invariant: there is a repeat among the records from i on if
+-- there is one among all. The measure is how many are left. Assumes nothing.
 use mathlib.Core.Path.{_≡_, sym, _∙_}
 use Prim.Native.Nat.{_*_, _/_, _-_}
 use native.Mathlib.Omega.{arith}

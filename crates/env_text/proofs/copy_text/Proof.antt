@@ -1,5 +1,5 @@
--- `env_text::copy_text` meets its contract. The loop's invariant: what the text still has from here, put after what was copied, gives the whole
--- copy. The measure is how many bytes are still to come. Assumes nothing.
+-- `env_text::copy_text` meets its contract. The loop's invariant: what the text still has from here, put after what was
+-- copied, gives the whole copy. The measure is how many bytes are still to come. Assumes nothing.
 use mathlib.Core.Path.{_≡_, refl, sym, ap, _∙_}
 use mathlib.Core.List.{List, []}
 use Prim.Native.Nat.{ℕ, _+_, _-_, _≤_}

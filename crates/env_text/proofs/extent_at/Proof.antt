@@ -1,5 +1,5 @@
--- `env_text::extent_at` meets its contract: the text from where the loop stands is what is left of the whole. The measure is `length s - i`.
--- Assumes nothing.
+-- `env_text::extent_at` meets its contract: the text from where the loop stands is what is left of the whole. The
+-- measure is `length s - i`. Assumes nothing.
 use borrow.Author.Needs.{needs}
 use mathlib.Core.Path.{_≡_, refl, ap, _∙_}
 use Prim.Native.Nat.{_+_, _-_, _≤_}

@@ -1,4 +1,5 @@
--- `env_text::text_at` meets its contract: past the end no text stands, and within the bytes it is the one that was scanned. Assumes nothing.
+-- `env_text::text_at` meets its contract: past the end no text stands, and within the bytes it is the one that was
+-- scanned. Assumes nothing.
 use native.Mathlib.Omega.{arith}
 use borrow.Author.Needs.{needs}
 use Rattle.env_text.proofs.Scanning.{text-found, text-past}

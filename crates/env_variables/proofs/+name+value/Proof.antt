@@ -1,5 +1,6 @@
--- `env_variables::name` and `env_variables::value` meet their contracts: each way through either is one of the laws of the turns. What is
--- left of the payload falls; a value reader that finds no VALUE hands on all of it, so it counts one more. Assumes nothing.
+-- `env_variables::name` and `env_variables::value` meet their contracts: each way through either is one of the laws of
+-- the turns. What is left of the payload falls; a value reader that finds no VALUE hands on all of it, so it counts one
+-- more. Assumes nothing.
 use mathlib.Core.Path.{sym, _∙_}
 use native.Mathlib.Omega.{arith}
 use lib.ListN.{length, drop}

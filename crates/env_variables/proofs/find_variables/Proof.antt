@@ -1,4 +1,5 @@
--- `env_variables::find_variables` meets its contract: the two arrays have the room that the name reader asks for. Assumes nothing.
+-- `env_variables::find_variables` meets its contract: the two arrays have the room that the name reader asks for.
+-- Assumes nothing.
 use borrow.Author.Needs.{needs}
 use Rattle.env.specs.Read.{variablesOf}
 use Rattle.env_variables.proofs.find_variables.Statement.{statement}

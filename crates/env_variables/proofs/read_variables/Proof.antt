@@ -1,4 +1,5 @@
--- `env_variables::read_variables` meets its contract: a fault is told, and the variables that were found are delivered. Assumes nothing.
+-- `env_variables::read_variables` meets its contract: a fault is told, and the variables that were found are delivered.
+-- Assumes nothing.
 use mathlib.Core.Path.{_∙_}
 use native.Mathlib.Nat.{sub-zero}
 use native.Mathlib.Omega.{arith}

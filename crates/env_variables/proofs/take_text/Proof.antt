@@ -1,4 +1,5 @@
--- `env_variables::take_text` meets its contract: the text that was found and copied is the text of the row. Assumes nothing.
+-- `env_variables::take_text` meets its contract: the text that was found and copied is the text of the row. Assumes
+-- nothing.
 use native.Mathlib.Omega.{arith}
 use borrow.Author.Needs.{needs}
 use Rattle.env_variables.proofs.Texts.{taken}

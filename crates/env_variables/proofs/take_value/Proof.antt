@@ -1,4 +1,5 @@
--- `env_variables::take_value` meets its contract: no VALUE stands there, or it is the text after the VALUE. Assumes nothing.
+-- `env_variables::take_value` meets its contract: no VALUE stands there, or it is the text after the VALUE. Assumes
+-- nothing.
 use mathlib.Core.Path.{sym, _∙_}
 use native.Mathlib.Omega.{arith}
 use borrow.Author.Needs.{needs}

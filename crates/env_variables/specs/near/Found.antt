@@ -18,7 +18,8 @@ pub record Buffers : Type 0 where
 abbrev pub buffers : List ℕ → List ℕ → Buffers
 buffers b n = record { bytes = b; numbers = n }
 
--- bytes and numbers that were put where buffer and list had room for them; the answer is how many variables there are now, and bytes
+-- bytes and numbers that were put where buffer and list had room for them; the answer is how many variables there are
+-- now, and bytes
 pub record Stored (x ns : List ℕ) (count at k : ℕ) (before : Buffers) (r : Answered) (after : Buffers) : Type 0 where
   pub answer : r ≡ Variables count (at + length x)
   pub limit : count ≤ variableLimit

@@ -1,4 +1,5 @@
--- What the name reader and the value reader, which call each other, find from a place of the payload on, and leave in buffer and list.
+-- What the name reader and the value reader, which call each other, find from a place of the payload on, and leave in
+-- buffer and list.
 use mathlib.Core.Path.{_≡_}
 use mathlib.Core.Bool.{true, false}
 use mathlib.Core.List.{List, [], _∷_, _++_}
@@ -40,7 +41,8 @@ unfoldable pub completed : ℕ → List ℕ → Valued → Found
 completed kind name (valued v vs) = variables (variable kind name v ∷ vs)
 completed kind name (badValue n) = fault n
 
--- the value after a name, none where no VALUE stands: broken, or whole and put at a place of the buffer, with what the name reader finds after it
+-- the value after a name, none where no VALUE stands: broken, or whole and put at a place of the buffer, with what the
+-- name reader finds after it
 pub record IsValue (rest bytes₀ : List ℕ) (at : ℕ) (r : Text) (bytes : List ℕ) : Type 0 where
   pub value : List ℕ
   pub bad : r .whole ≡ false → (k : ℕ) → fromValue k (rowOf rest .fields) ≡ badValue badEscape
@@ -50,7 +52,8 @@ pub record IsValue (rest bytes₀ : List ℕ) (at : ℕ) (r : Text) (bytes : Lis
   pub forward : r .length ≤ r .end
   pub within : r .end ≤ length rest
 
--- after `at` bytes of the buffer there is room for all that is left of a payload, and the list has room for 64 records, k of which are known
+-- after `at` bytes of the buffer there is room for all that is left of a payload, and the list has room for 64 records,
+-- k of which are known
 pub record HasRoom (rest : List ℕ) (at k : ℕ) (b : Buffers) : Type 0 where
   pub texts : at + length rest ≤ length (b .bytes)
   pub short : length (b .bytes) ≤ payloadLimit

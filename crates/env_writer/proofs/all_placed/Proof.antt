@@ -1,5 +1,5 @@
--- `env_writer::all_placed` meets its contract: where the loop stands, the records from there on decide. The measure is `length numbers / recordWidth - i`.
--- Assumes nothing.
+-- `env_writer::all_placed` meets its contract: where the loop stands, the records from there on decide. The measure is
+-- `length numbers / recordWidth - i`. Assumes nothing.
 use mathlib.Core.Path.{_≡_, refl, sym, ap, _∙_}
 use mathlib.Core.Bool.{_&&_}
 use Prim.Native.Nat.{_+_, _-_, _*_, _/_}

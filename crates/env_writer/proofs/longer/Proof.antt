@@ -1,4 +1,5 @@
--- `env_writer::longer` meets its contract: a text takes no fewer bytes than it has, and no more than twice as many. Assumes nothing.
+-- `env_writer::longer` meets its contract: a text takes no fewer bytes than it has, and no more than twice as many.
+-- Assumes nothing.
 use mathlib.Core.Path.{ap}
 use native.Mathlib.Omega.{arith}
 use lib.ListN.{length}

@@ -1,4 +1,5 @@
--- `env_writer::measure` meets its contract: what was counted, with the variables that are left, is the whole. Assumes nothing.
+-- `env_writer::measure` meets its contract: what was counted, with the variables that are left, is the whole. Assumes
+-- nothing.
 use mathlib.Core.Path.{_≡_, refl, ap, _∙_}
 use mathlib.Core.Bool.{true}
 use Prim.Native.Nat.{_+_, _-_, _*_, _/_, min, _≤_}

@@ -1,4 +1,5 @@
--- `export_listing::tv_line` meets its contract: the numbers of what `line` answers on what `look` finds. Assumes nothing.
+-- `export_listing::tv_line` meets its contract: the numbers of what `line` answers on what `look` finds. Assumes
+-- nothing.
 use borrow.Author.Needs.{needs}
 use mathlib.Core.Path.{ap, _∙_}
 use Rattle.telnet_reader.specs.declared.Answer.{Answer}

@@ -1,4 +1,5 @@
--- `export_password::tv_des_substitute` meets its contract: the numbers of what `des_substitute` answers. Assumes nothing.
+-- `export_password::tv_des_substitute` meets its contract: the numbers of what `des_substitute` answers. Assumes
+-- nothing.
 use borrow.Author.Needs.{needs}
 use mathlib.Core.Path.{ap, _∙_}
 use Rattle.export_password.specs.Numbers.{blockNumbers}

@@ -1,4 +1,5 @@
--- `export_print::ledgers_named` meets its contract: by whether a record is held, and by the test of the number. Assumes nothing.
+-- `export_print::ledgers_named` meets its contract: by whether a record is held, and by the test of the number. Assumes
+-- nothing.
 use mathlib.Core.Path.{_≡_, refl, ap}
 use mathlib.Core.Bool.{Bool, true, false}
 use lib.Dec.{eqb}

@@ -1,4 +1,5 @@
--- `export_signon::tv_response` meets its contract: the numbers of what `response` answers on the verdict that is named. Assumes nothing.
+-- `export_signon::tv_response` meets its contract: the numbers of what `response` answers on the verdict that is named.
+-- Assumes nothing.
 use borrow.Author.Needs.{needs}
 use Rattle.export.proofs.Numbered.{by-numbers}
 use Rattle.export_signon.specs.Numbers.{writtenNumbers}

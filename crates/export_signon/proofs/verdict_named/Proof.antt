@@ -1,4 +1,5 @@
--- `export_signon::verdict_named` meets its contract: at each arm the tests of `verdictNamed` are decided. Assumes nothing.
+-- `export_signon::verdict_named` meets its contract: at each arm the tests of `verdictNamed` are decided. Assumes
+-- nothing.
 use borrow.Author.Tests.{ne-eqb}
 use Rattle.export_signon.specs.Numbers.{verdictNamed}
 use Rattle.export_signon.proofs.verdict_named.Statement.{statement}

@@ -1,4 +1,5 @@
--- `export_signon::verdicts_named` meets its contract: verdict by verdict, and by the tests of the number. Assumes nothing.
+-- `export_signon::verdicts_named` meets its contract: verdict by verdict, and by the tests of the number. Assumes
+-- nothing.
 use mathlib.Core.Path.{_≡_, refl, sym}
 use mathlib.Core.Logic.{_⊎_, inl, inr}
 use Prim.Native.Nat.{ℕ}

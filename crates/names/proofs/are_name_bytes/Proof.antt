@@ -1,5 +1,5 @@
--- `names::are_name_bytes` meets its contract. The loop's invariant: the bytes from `i` on answer for all of them. The measure is how many are left.
--- Assumes nothing.
+-- `names::are_name_bytes` meets its contract. The loop's invariant: the bytes from `i` on answer for all of them. The
+-- measure is how many are left. Assumes nothing.
 use mathlib.Core.Path.{_≡_, refl, sym, ap, _∙_}
 use mathlib.Core.Bool.{true, false, _&&_}
 use mathlib.Core.List.{List, []}

@@ -1,4 +1,5 @@
--- `names::ebcdic` meets its contract: each arm of the `match` is compared with the definition at every byte that reaches it. Assumes nothing.
+-- `names::ebcdic` meets its contract: each arm of the `match` is compared with the definition at every byte that
+-- reaches it. Assumes nothing.
 use mathlib.Core.Path.{_≡_, refl, _∙_}
 use Prim.Native.Nat.{ℕ, _+_, _-_}
 use native.Mathlib.Omega.{arith}

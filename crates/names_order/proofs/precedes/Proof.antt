@@ -1,5 +1,5 @@
--- `names_order::precedes` meets its contract. The loop's invariant: the bytes from `i` on answer for all of them. The measure is how many are left of
--- the first. Assumes nothing.
+-- `names_order::precedes` meets its contract. The loop's invariant: the bytes from `i` on answer for all of them. The
+-- measure is how many are left of the first. Assumes nothing.
 use mathlib.Core.Path.{_≡_, refl, sym, _∙_}
 use Prim.Native.Nat.{_+_, _-_, _≤_}
 use native.Mathlib.Omega.{arith}

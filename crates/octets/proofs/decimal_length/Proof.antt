@@ -1,5 +1,5 @@
--- `octets::decimal_length` meets its contract. The loop's invariant: what is counted and the digits of what is left are one more than the digits of `n`. The measure is what is left.
--- Assumes nothing.
+-- `octets::decimal_length` meets its contract. The loop's invariant: what is counted and the digits of what is left are
+-- one more than the digits of `n`. The measure is what is left. Assumes nothing.
 use mathlib.Core.Path.{_≡_}
 use Prim.Native.Nat.{_+_}
 use native.Mathlib.Omega.{arith}

@@ -1,5 +1,5 @@
--- `octets::put_digits` meets its contract. The loop's invariant: the digits of what is left end at `end`, and to write them gives the buffer with all of them. The measure is what is left.
--- Assumes nothing.
+-- `octets::put_digits` meets its contract. The loop's invariant: the digits of what is left end at `end`, and to write
+-- them gives the buffer with all of them. The measure is what is left. Assumes nothing.
 use mathlib.Core.Path.{_≡_}
 use Prim.Native.Nat.{_+_, _-_, _/_, _%_, _≤_, _<_}
 use native.Mathlib.Omega.{arith}

@@ -1,5 +1,5 @@
--- `octets::same` meets its contract: that no difference was found yet and that the rest is the same, together, are the answer. The measure is
--- `length a - i`. Assumes nothing.
+-- `octets::same` meets its contract: that no difference was found yet and that the rest is the same, together, are the
+-- answer. The measure is `length a - i`. Assumes nothing.
 use mathlib.Core.Path.{_≡_, refl, sym, _∙_}
 use mathlib.Core.Bool.{_&&_}
 use Prim.Native.Nat.{_-_, _≤_, _<_}

@@ -1,5 +1,5 @@
--- `octets_find::find_byte` meets its contract. The loop's invariant: what stands before the byte from here on, after what is passed, ends where the answer is.
--- The measure is what is left of the text. Assumes nothing.
+-- `octets_find::find_byte` meets its contract. The loop's invariant: what stands before the byte from here on, after
+-- what is passed, ends where the answer is. The measure is what is left of the text. Assumes nothing.
 use mathlib.Core.Path.{_≡_}
 use Prim.Native.Nat.{_+_, _-_}
 use native.Mathlib.Omega.{arith}

@@ -1,5 +1,5 @@
--- `octets_marked::copy_eight` meets its contract. The loop's invariant: j bytes are copied, and the rest of the buffer is as it was. The measure is `8 - j`.
--- Assumes nothing.
+-- `octets_marked::copy_eight` meets its contract. The loop's invariant: j bytes are copied, and the rest of the buffer
+-- is as it was. The measure is `8 - j`. Assumes nothing.
 use mathlib.Core.Path.{_≡_, sym, ap, _∙_}
 use Prim.Native.Nat.{_+_, _-_, _≤_}
 use native.Mathlib.Omega.{arith}

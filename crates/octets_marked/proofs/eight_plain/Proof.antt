@@ -1,5 +1,5 @@
--- `octets_marked::eight_plain` meets its contract. The loop's invariant: where none was found in the range, the first j bytes have no mark. The measure is `8 - j`.
--- Assumes nothing.
+-- `octets_marked::eight_plain` meets its contract. The loop's invariant: where none was found in the range, the first j
+-- bytes have no mark. The measure is `8 - j`. Assumes nothing.
 use mathlib.Core.Path.{_≡_, sym, _∙_}
 use mathlib.Core.Bool.{true, false}
 use mathlib.Core.Logic.{⊎-elim}

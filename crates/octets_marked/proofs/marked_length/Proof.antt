@@ -1,5 +1,6 @@
--- `octets_marked::marked_length` meets its contract. The loop's invariant: the marks so far, the bytes so far and what is left to count are the whole, and there
--- are no more marks than bytes. The measure is how many bytes are left. Assumes nothing.
+-- `octets_marked::marked_length` meets its contract. The loop's invariant: the marks so far, the bytes so far and what
+-- is left to count are the whole, and there are no more marks than bytes. The measure is how many bytes are left.
+-- Assumes nothing.
 use mathlib.Core.Path.{_≡_, ap, sym, _∙_}
 use mathlib.Core.Logic.{⊎-elim}
 use Prim.Native.Nat.{ℕ, _+_, _-_, _≤_}

@@ -1,5 +1,5 @@
--- `octets_marked::put_bytes` meets its contract. The loop's invariant: what is still to be put, after what was put, is what was to be put. The measure is how
--- many bytes are left. Assumes nothing.
+-- `octets_marked::put_bytes` meets its contract. The loop's invariant: what is still to be put, after what was put, is
+-- what was to be put. The measure is how many bytes are left. Assumes nothing.
 use mathlib.Core.Path.{_≡_, _∙_}
 use mathlib.Core.List.{[], _∷_}
 use Prim.Native.Nat.{_-_, _≤_}

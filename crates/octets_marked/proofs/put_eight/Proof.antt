@@ -1,4 +1,5 @@
--- `octets_marked::put_eight` meets its contract: eight bytes without a mark are a piece that is put as it is. Assumes nothing.
+-- `octets_marked::put_eight` meets its contract: eight bytes without a mark are a piece that is put as it is. Assumes
+-- nothing.
 use mathlib.Core.Path.{sym, ap}
 use Prim.Native.Nat.{_+_}
 use native.Mathlib.Omega.{arith}

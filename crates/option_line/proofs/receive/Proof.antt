@@ -1,4 +1,5 @@
--- `option_line::receive` meets its contract: an option command from the other end steps the sides, and the answer is sent. Assumes nothing.
+-- `option_line::receive` meets its contract: an option command from the other end steps the sides, and the answer is
+-- sent. Assumes nothing.
 use mathlib.Core.Path.{sym, ap, _∙_}
 use Rattle.octets.specs.Lent.{outcome}
 use Rattle.option_line.specs.Line.{receivedOn}

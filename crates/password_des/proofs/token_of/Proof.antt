@@ -1,4 +1,5 @@
--- `password_des::token_of` meets its contract: the first eight bytes of the padded password are the password padded to eight. Assumes nothing.
+-- `password_des::token_of` meets its contract: the first eight bytes of the padded password are the password padded to
+-- eight. Assumes nothing.
 use mathlib.Core.Path.{ap, _∙_}
 use lib.ListN.{take}
 use Rattle.words.specs.BigEndian.{number}

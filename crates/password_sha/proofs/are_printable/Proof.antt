@@ -1,5 +1,5 @@
--- `password_sha::are_printable` meets its contract: the bytes from i on answer for all of them. The measure is `length text - i`. Assumes
--- nothing.
+-- `password_sha::are_printable` meets its contract: the bytes from i on answer for all of them. The measure is `length
+-- text - i`. Assumes nothing.
 use mathlib.Core.Path.{_≡_, refl, sym, _∙_}
 use mathlib.Core.Bool.{true, false, _&&_}
 use mathlib.Core.List.{List, []}

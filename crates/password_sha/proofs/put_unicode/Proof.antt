@@ -1,5 +1,5 @@
--- `password_sha::put_unicode` meets its contract: the characters from i on, put after those that are there, give all of them. The measure is
--- `length text - i`. Assumes nothing.
+-- `password_sha::put_unicode` meets its contract: the characters from i on, put after those that are there, give all of
+-- them. The measure is `length text - i`. Assumes nothing.
 use mathlib.Core.Path.{_≡_, refl, sym, _∙_}
 use mathlib.Core.List.{[]}
 use Prim.Native.Nat.{_+_, _-_, _*_, _≤_, _<_}

@@ -1,4 +1,5 @@
--- `play_options::all_on` meets its contract. The invariant: what is left is on where all is. The measure is how many are left. Assumes nothing.
+-- `play_options::all_on` meets its contract. The invariant: what is left is on where all is. The measure is how many
+-- are left. Assumes nothing.
 use mathlib.Core.Path.{_≡_, ap, ap₂, _∙_, sym}
 use Prim.Native.Nat.{_-_, _≤_}
 use native.Mathlib.Omega.{arith}

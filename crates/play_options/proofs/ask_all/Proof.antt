@@ -1,4 +1,5 @@
--- `play_options::ask_all` meets its contract. The invariant: the turns that are left come to what all of them do. The measure is how many are left. Assumes nothing.
+-- `play_options::ask_all` meets its contract. The invariant: the turns that are left come to what all of them do. The
+-- measure is how many are left. Assumes nothing.
 use mathlib.Core.Path.{_≡_, ap, ap₂, _∙_, sym}
 use Prim.Native.Nat.{_-_, _≤_}
 use native.Mathlib.Omega.{arith}

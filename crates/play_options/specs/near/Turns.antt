@@ -1,4 +1,5 @@
--- The turns of both ends: what the private functions of this crate answer. No public promise rests on these definitions; `proofs/` has them computed.
+-- The turns of both ends: what the private functions of this crate answer. No public promise rests on these
+-- definitions; `proofs/` has them computed.
 use Prim.Native.Nat.{ℕ, suc, zero, _*_}
 use mathlib.Core.Bool.{Bool, true, false, _&&_}
 use mathlib.Core.List.{List}
@@ -27,7 +28,7 @@ optionAt i =
 abbrev pub whoseAt : ℕ → Whose
 whoseAt i = if eqb i 3 then Ours else if eqb i 5 then Ours else Other
 
--- so many turns of an end from one on: each goes on with the sides and the line of the one before
+-- n turns of an end from turn i on: each goes on with the sides and the line of the one before
 unfoldable pub turns : (ℕ → Sent → List ℕ → Outcome Sent) → ℕ → ℕ → Sent → List ℕ → Outcome Sent
 turns turn zero i s line = outcome s line
 turns turn (suc n) i s line = turns turn n (suc i) (turn i s line .answer) (turn i s line .lent)
@@ -52,7 +53,7 @@ isOn WantOffThenOn = false
 isOn WantOn = false
 isOn WantOnThenOff = false
 
--- so many of what the host asks for, from one on, are on
+-- n of what the host asks for, from i on, are on
 unfoldable pub allOn : ℕ → ℕ → Sides → Bool
 allOn zero i s = true
 allOn (suc n) i s = isOn (sideAt s (whoseAt i) (optionAt i)) && allOn n (suc i) s

@@ -1,4 +1,5 @@
--- `print_frame::read_frame` meets its contract: at each `return` the tests of `frameOf` up to it are decided. Assumes nothing.
+-- `print_frame::read_frame` meets its contract: at each `return` the tests of `frameOf` up to it are decided. Assumes
+-- nothing.
 use mathlib.Core.Path.{_≡_, sym, ap, _∙_}
 use mathlib.Core.Bool.{Bool, true, false, not}
 use mathlib.Core.List.{List}

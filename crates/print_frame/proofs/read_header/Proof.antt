@@ -1,4 +1,5 @@
--- `print_frame::read_header` meets its contract: at each `return` the tests of `headerOf` up to it are decided. Assumes nothing.
+-- `print_frame::read_header` meets its contract: at each `return` the tests of `headerOf` up to it are decided. Assumes
+-- nothing.
 use mathlib.Core.Path.{sym, _∙_}
 use native.Mathlib.Omega.{arith}
 use borrow.Author.Needs.{needs}

@@ -1,4 +1,5 @@
--- `profile_table::is_record` meets its contract: its tests in their order decide as the definition does. Assumes nothing.
+-- `profile_table::is_record` meets its contract: its tests in their order decide as the definition does. Assumes
+-- nothing.
 use mathlib.Core.Path.{sym, ap, _∙_}
 use native.Mathlib.Omega.{arith}
 use Rattle.names.specs.Name.{isRaisedName, profileLimit}

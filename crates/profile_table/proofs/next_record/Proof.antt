@@ -1,4 +1,5 @@
--- `profile_table::next_record` meets its contract: 31 before 32, and 32 by the count before that by the order. Assumes nothing.
+-- `profile_table::next_record` meets its contract: 31 before 32, and 32 by the count before that by the order. Assumes
+-- nothing.
 use mathlib.Core.Path.{_≡_, sym, ap, _∙_}
 use mathlib.Core.Bool.{true, false}
 use Prim.Native.Nat.{ℕ, _+_, _≤_}

@@ -1,5 +1,5 @@
--- `profile_table::scan_records` meets its contract. The loop's invariant: what was counted and found up to `at`, with what is read from there on, gives the
--- scan of all records. The measure is what is left of the table. Assumes nothing.
+-- `profile_table::scan_records` meets its contract. The loop's invariant: what was counted and found up to `at`, with
+-- what is read from there on, gives the scan of all records. The measure is what is left of the table. Assumes nothing.
 use mathlib.Core.Path.{_≡_, refl, sym, ap, ap₂, _∙_}
 use mathlib.Core.List.{List, []}
 use Prim.Native.Nat.{ℕ, _+_, _-_, _≤_, _<_}

@@ -16,7 +16,7 @@ use Rattle.profile_table.specs.declared.Step.the-variants.{Next, Stop}
 use Rattle.profile_table.specs.declared.Scan.{Scan}
 use Rattle.profile_table.specs.Answer.{entry, foundFrom}
 
--- what the records of bytes say, after so many profiles and a name
+-- what the records of bytes say, after `count` profiles and the name of the last of them
 abbrev pub recordsBehind : ℕ → List ℕ → List ℕ → TableReading
 recordsBehind count before bs = profilesFrom version1 (profileCount - count) before bs
 
@@ -47,7 +47,7 @@ foundHere at name p found = orElse found (if same name (p .name) then Present (e
 abbrev pub scan : ℕ → Found → Scan
 scan n f = record { count = n; found = f }
 
--- a scan that has come so far, and what it comes to by what is read from there on
+-- the result of a scan that has `count` and `found` at `at`, given the reading of the rest
 abbrev pub continued : List ℕ → ℕ → ℕ → Found → TableReading → Scan
 continued name count at found (profiles ps) = scan (count + length ps) (orElse found (foundFrom at name ps))
 continued name count at found (tableRefused n) = scan 0 (Refused n)

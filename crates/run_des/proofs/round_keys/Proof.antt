@@ -1,4 +1,5 @@
--- `run_des::round_keys` is safe and ends: 16 digits stand for each round key. The measure is the round keys that are left. Assumes nothing.
+-- `run_des::round_keys` is safe and ends: 16 digits stand for each round key. The measure is the round keys that are
+-- left. Assumes nothing.
 use Prim.Native.Nat.{_-_}
 use borrow.Author.Needs.{needs}
 use Rattle.run_des.proofs.round_keys.Statement.{statement}

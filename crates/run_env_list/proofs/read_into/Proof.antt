@@ -1,6 +1,7 @@
--- `run_env_list::read_into` is safe and ends: a walk of its code. It makes a local of 66 records, of which it lends the first n (`Prefix`) to `read_records`, to
--- which the payload and the buffer go at their own lifetimes; then the local is read whole. What the callees promise is not needed. A comment in brackets
--- is the context at that point, in its order; a local and what frees it are `_n; …`. Assumes nothing.
+-- `run_env_list::read_into` is safe and ends: a walk of its code. It makes a local of 66 records, of which it lends the
+-- first n (`Prefix`) to `read_records`, to which the payload and the buffer go at their own lifetimes; then the local
+-- is read whole. What the callees promise is not needed. A comment in brackets is the context at that point, in its
+-- order; a local and what frees it are `_n; …`. Assumes nothing.
 use mathlib.Core.Path.{_≡_, refl}
 use Prim.Native.Nat.{ℕ, _≤_}
 use native.Mathlib.Nat.{lt-of-le-of-lt, mul-le-mul-right}
@@ -181,7 +182,8 @@ module _ {M : Type 1} (𝓤 : URA M) (H : Heap 𝓤) (A : Atoms 𝓤) (W : Given
         lft-new ! tt (λ α. move ! (1 ∷ []) $
         use1 W (later (some (λ (δ : GName). ‵ (MutSlice (named 2) (α ∷ []) T.the-row .own (lent-list l₅ δ (take n xs)) (sl l₅ ∷ []))
         ⊛ ‵ (flent (α ∷ []) (Held T.the-row n l₅ 0 δ))))) (lends T.the-row 𝓤 H A W n l₅ (named 2) (α ∷ []) (take n xs) room-n) $ await ! tt $ pick ! (λ δ. split ! $
-        -- [the slice; the lender's part; its token; the others; the buffer's token; the payload's; buffer; payload; _11; …]
+        -- [the slice; the lender's part; its token; the others; the buffer's token; the payload's; buffer; payload;
+        -- _11; …]
         nothing ! $ move ! (1 ∷ 0 ∷ []) $ fjoin ! $ move ! (6 ∷ 0 ∷ []) $ fjoin ! $ move ! (6 ∷ 0 ∷ []) $ fjoin ! $
         nothing ! $ move ! (3 ∷ 0 ∷ []) $ join ! $ move ! (4 ∷ 0 ∷ []) $ join ! $ move ! (4 ∷ 0 ∷ []) $ join ! $
         use2 W (raw (Read 𝓤 H A mem run .pre (to-read l₅ α δ))) (ask-read l₅ α δ) $
@@ -203,7 +205,8 @@ module _ {M : Type 1} (𝓤 : URA M) (H : Heap 𝓤) (A : Atoms 𝓤) (W : Given
         use3 W (later (‵ (Lies T.the-row n zs l₅))) (back T.the-row 𝓤 H A W n l₅ (α ∷ []) δ zs) $ await ! tt $ move ! (0 ∷ 6 ∷ []) $
         use2 W (‵ (Lies T.the-row size (zs ++ drop n xs) l₅))
         (joined T.the-row 𝓤 H A W size n l₅ xs (length-replicate {A = VariableRecord} size v) within zs same) $
-        -- [the records; true; the buffer's token; the payload's; the answer; the buffer's last list; _11; …]: `say_answer`
+        -- [the records; true; the buffer's token; the payload's; the answer; the buffer's last list; _11; …]:
+        -- `say_answer`
         move ! (4 ∷ []) $ use1 W (raw (Say 𝓤 H A mem run .pre (to-say r w))) (ask-say r w) $
         calls-at ! (fmOf 𝓤 H (W .laws) 𝓣) (Say 𝓤 H A mem run) known-say (to-say r w) (and-then ! (local ! 16 refl) (no-more !)) (λ u′.
         use1 W (later (some (λ (o : Unit {0}). (‵ ftrue ⊛ ‵ (unit .own o (u′ ∷ [])))

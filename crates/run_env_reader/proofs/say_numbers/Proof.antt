@@ -1,4 +1,5 @@
--- `run_env_reader::say_numbers` is safe and ends: what is left of the numbers falls. The measure is `length numbers - i`. Assumes nothing.
+-- `run_env_reader::say_numbers` is safe and ends: what is left of the numbers falls. The measure is `length numbers -
+-- i`. Assumes nothing.
 use Prim.Native.Nat.{_-_, _≤_}
 use lib.ListN.{length}
 use borrow.Author.Needs.{needs}

@@ -1,6 +1,7 @@
--- `run_env_set::set_and_get` is safe and ends: a walk of its code. Its local of two records is lent to `set` as `&mut` and to `get` as `&` (`env_list`'s
--- `Buffer`), each for a lifetime of the call; between them the answer is said. What the callees promise is not needed. A comment in brackets is the context
--- at that point, in its order; a local and what frees it are `_n; …`. Assumes nothing.
+-- `run_env_set::set_and_get` is safe and ends: a walk of its code. Its local of two records is lent to `set` as `&mut`
+-- and to `get` as `&` (`env_list`'s `Buffer`), each for a lifetime of the call; between them the answer is said. What
+-- the callees promise is not needed. A comment in brackets is the context at that point, in its order; a local and what
+-- frees it are `_n; …`. Assumes nothing.
 use mathlib.Core.Path.{_≡_, refl}
 use mathlib.Core.Bool.{Bool}
 use Prim.Native.Nat.{ℕ, _<_, _^_}

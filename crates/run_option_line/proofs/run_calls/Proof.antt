@@ -1,4 +1,5 @@
--- `run_option_line::run_calls` is safe and ends: six bytes stand for each call, and the line keeps its eight. The measure is the calls that are left. Assumes nothing.
+-- `run_option_line::run_calls` is safe and ends: six bytes stand for each call, and the line keeps its eight. The
+-- measure is the calls that are left. Assumes nothing.
 use mathlib.Core.Path.{_≡_}
 use Prim.Native.Nat.{_-_, _/_}
 use lib.ListN.{length}

@@ -1,4 +1,5 @@
--- `run_option_sides::run_calls` is safe and ends: three bytes stand for each call. The measure is the calls that are left. Assumes nothing.
+-- `run_option_sides::run_calls` is safe and ends: three bytes stand for each call. The measure is the calls that are
+-- left. Assumes nothing.
 use Prim.Native.Nat.{_-_, _/_}
 use lib.ListN.{length}
 use borrow.Author.Needs.{needs}

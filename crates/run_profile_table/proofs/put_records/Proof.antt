@@ -1,4 +1,5 @@
--- `run_profile_table::put_records` is safe and ends: the table keeps its length. The measure is how many numbers are left. Assumes nothing.
+-- `run_profile_table::put_records` is safe and ends: the table keeps its length. The measure is how many numbers are
+-- left. Assumes nothing.
 use Prim.Native.Nat.{_-_}
 use mathlib.Core.Path.{_≡_}
 use lib.ListN.{length}

@@ -1,5 +1,5 @@
--- `sha1_block::absorb` meets its contract: what is left of the blocks, from here, gives the whole. The measure is `length blocks - at`.
--- Assumes nothing.
+-- `sha1_block::absorb` meets its contract: what is left of the blocks, from here, gives the whole. The measure is
+-- `length blocks - at`. Assumes nothing.
 use mathlib.Core.Path.{_≡_, refl, sym, _∙_}
 use Prim.Native.Nat.{_+_, _-_, _≤_}
 use native.Mathlib.Omega.{arith}

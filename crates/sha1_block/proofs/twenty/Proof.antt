@@ -1,4 +1,5 @@
--- `sha1_block::twenty` meets its contract: a word and a round more at each step. The measure is `end - t`. Assumes nothing.
+-- `sha1_block::twenty` meets its contract: a word and a round more at each step. The measure is `end - t`. Assumes
+-- nothing.
 use mathlib.Core.Path.{_≡_, refl, _∙_}
 use native.Mathlib.Nat.{le-refl}
 use Prim.Native.Nat.{_+_, _-_, _*_, _≤_}

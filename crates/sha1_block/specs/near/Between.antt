@@ -10,7 +10,8 @@ use Rattle.sha1.specs.Sha1.{Five, extended, schedule, rounds}
 abbrev pub planned : List ℕ → ℕ → List ℕ → List ℕ
 planned block t u = extended (64 - (t - 16)) (u ++ wordsOf 4 (drop (4 * t) block))
 
--- before round t, from the hash value H: t words of the schedule are in the array, and the working variables have gone through their rounds
+-- before round t, from the hash value H: t words of the schedule are in the array, and the working variables have gone
+-- through their rounds
 pub record Rounded (block : List ℕ) (H : Five) (t : ℕ) (w : List ℕ) (s : Five) : Type 0 where
   pub plan : planned block t (take t w) ≡ schedule block
   pub variables : s ≡ rounds 0 (take t w) H

@@ -1,4 +1,5 @@
--- `show::put_number` meets its contract: the answer of `octets::put_decimal` says which of the two it did. Assumes nothing.
+-- `show::put_number` meets its contract: the answer of `octets::put_decimal` says which of the two it did. Assumes
+-- nothing.
 use mathlib.Core.Path.{sym, ap, _∙_}
 use Prim.Native.Nat.{_+_}
 use native.Mathlib.Omega.{arith}

@@ -1,5 +1,5 @@
--- `show::read_hex` meets its contract. The loop's invariant: to put the bytes of the pairs from `i` on after those that are there gives the buffer
--- with all of them. The measure is how many pairs are left. Assumes nothing.
+-- `show::read_hex` meets its contract. The loop's invariant: to put the bytes of the pairs from `i` on after those that
+-- are there gives the buffer with all of them. The measure is how many pairs are left. Assumes nothing.
 use mathlib.Core.Path.{_≡_, refl, sym, ap, _∙_}
 use Prim.Native.Nat.{suc, _+_, _-_, _*_, _/_, _≤_}
 use native.Mathlib.Omega.{arith}

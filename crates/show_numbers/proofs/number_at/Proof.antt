@@ -1,4 +1,5 @@
--- `show_numbers::number_at` meets its contract: two bytes stand at the place, or fewer are left from there on. Assumes nothing.
+-- `show_numbers::number_at` meets its contract: two bytes stand at the place, or fewer are left from there on. Assumes
+-- nothing.
 use mathlib.Core.Path.{sym, _∙_}
 use native.Mathlib.Omega.{arith}
 use borrow.Author.Needs.{needs}

@@ -1,5 +1,5 @@
--- `show_numbers::put_numbers` meets its contract. The loop's invariant: to put the numbers of the pairs from `i` on after those that are there gives the
--- list with all of them. The measure is how many pairs are left. Assumes nothing.
+-- `show_numbers::put_numbers` meets its contract. The loop's invariant: to put the numbers of the pairs from `i` on
+-- after those that are there gives the list with all of them. The measure is how many pairs are left. Assumes nothing.
 use mathlib.Core.Path.{_≡_, refl, sym, ap, _∙_}
 use Prim.Native.Nat.{suc, _+_, _-_, _*_, _/_, _≤_}
 use native.Mathlib.Omega.{arith}

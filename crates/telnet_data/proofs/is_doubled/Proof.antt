@@ -1,4 +1,5 @@
--- `telnet_data::is_doubled` meets its contract: at each `return` the two bytes there, or that there are not two, decide. Assumes nothing.
+-- `telnet_data::is_doubled` meets its contract: at each `return` the two bytes there, or that there are not two,
+-- decide. Assumes nothing.
 use mathlib.Core.Path.{sym, _∙_}
 use native.Mathlib.Omega.{arith}
 use lib.ListN.{getD}

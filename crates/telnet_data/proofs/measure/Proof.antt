@@ -1,5 +1,5 @@
--- `telnet_data::measure` meets its contract. The invariant: so many bytes of the stretch as are counted stand before the place where the loop is. The
--- measure is what is left of the line. Assumes nothing.
+-- `telnet_data::measure` meets its contract. The invariant: so many bytes of the stretch as are counted stand before
+-- the place where the loop is. The measure is what is left of the line. Assumes nothing.
 use mathlib.Core.Path.{sym, _∙_}
 use Prim.Native.Nat.{_+_, _-_}
 use native.Mathlib.Omega.{arith}

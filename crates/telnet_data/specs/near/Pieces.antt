@@ -1,5 +1,6 @@
--- The pieces of a stretch of data, plain bytes and doubled 255s: what the private functions of this crate answer and leave. No public promise rests
--- on these definitions; `proofs/Stretches.antt` has the laws that join them to the stretch.
+-- The pieces of a stretch of data, plain bytes and doubled 255s: what the private functions of this crate answer and
+-- leave. No public promise rests on these definitions; `proofs/Stretches.antt` has the laws that join them to the
+-- stretch.
 use mathlib.Core.Path.{_≡_}
 use mathlib.Core.Bool.{Bool, false, _&&_}
 use mathlib.Core.List.{List, [], _∷_}

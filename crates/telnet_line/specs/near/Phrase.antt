@@ -1,5 +1,5 @@
--- What the private functions of `src/words.rt` find before the bytes are put: a word and up to two numbers. No public promise rests on these
--- definitions.
+-- What the private functions of `src/words.rt` find before the bytes are put: a word and up to two numbers. No public
+-- promise rests on these definitions.
 use mathlib.Core.Path.{_≡_}
 use mathlib.Core.Bool.{Bool, true, false}
 use mathlib.Core.List.{List, [], _++_}

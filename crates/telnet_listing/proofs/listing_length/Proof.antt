@@ -1,5 +1,5 @@
--- `telnet_listing::listing_length` meets its contract. The loop's invariant: the lengths so far and those of the lines from here on make the whole.
--- The measure is how many bytes are left. Assumes nothing.
+-- `telnet_listing::listing_length` meets its contract. The loop's invariant: the lengths so far and those of the lines
+-- from here on make the whole. The measure is how many bytes are left. Assumes nothing.
 use mathlib.Core.Path.{_≡_, refl, sym, ap, _∙_}
 use Prim.Native.Nat.{_+_, _-_, _≤_}
 use native.Mathlib.Omega.{arith}

@@ -1,4 +1,5 @@
--- `telnet_listing::print` meets its contract: what is printed fits the room (`Room.fits`), so nothing is refused. Assumes nothing.
+-- `telnet_listing::print` meets its contract: what is printed fits the room (`Room.fits`), so nothing is refused.
+-- Assumes nothing.
 use mathlib.Core.Path.{sym, ap, ap₂, _∙_}
 use native.Mathlib.Omega.{arith}
 use lib.ListN.{length}

@@ -1,5 +1,5 @@
--- `telnet_listing::put_lines` meets its contract. The loop's invariant: to put the lines from here on after those that are there gives the whole.
--- The measure is how many bytes are left. Assumes nothing.
+-- `telnet_listing::put_lines` meets its contract. The loop's invariant: to put the lines from here on after those that
+-- are there gives the whole. The measure is how many bytes are left. Assumes nothing.
 use mathlib.Core.Path.{_≡_, refl, ap, ap₂, _∙_}
 use Prim.Native.Nat.{_+_, _-_, _≤_}
 use native.Mathlib.Omega.{arith}

@@ -1,5 +1,5 @@
--- `telnet_reader::read` meets its contract: a run that was copied is what is read there, and where none was the buffer is as it was.
--- Assumes nothing.
+-- `telnet_reader::read` meets its contract: a run that was copied is what is read there, and where none was the buffer
+-- is as it was. Assumes nothing.
 use mathlib.Core.Path.{sym, ap, ap₂, _∙_}
 use Prim.Native.Nat.{_-_, _≤_}
 use native.Mathlib.Omega.{arith}

@@ -1,5 +1,6 @@
--- Where the bytes that an event carries begin, in the terms of places: what a private function of this crate answers. No public promise rests
--- on this definition; `proofs/Carried.antt` has the laws that join it to what stands at a place.
+-- Where the bytes that an event carries begin, in the terms of places: what a private function of this crate answers.
+-- No public promise rests on this definition; `proofs/Carried.antt` has the laws that join it to what stands at a
+-- place.
 use Prim.Native.Nat.{ℕ}
 use Rattle.telnet.specs.declared.Kind.{Kind}
 use Rattle.telnet.specs.declared.Kind.the-variants.{Data, Command, Negotiation, Subnegotiation}

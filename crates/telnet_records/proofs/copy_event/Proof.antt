@@ -1,5 +1,5 @@
--- `telnet_records::copy_event` meets its contract: a run that was copied is the event's data, and where none was the buffer is as it was.
--- Assumes nothing.
+-- `telnet_records::copy_event` meets its contract: a run that was copied is the event's data, and where none was the
+-- buffer is as it was. Assumes nothing.
 use native.Mathlib.Omega.{arith}
 use Rattle.telnet_data.proofs.Copies.{run-none}
 use Rattle.telnet_records.proofs.Gathering.{run-copied, none-copied, passed-copied}

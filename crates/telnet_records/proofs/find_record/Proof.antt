@@ -1,5 +1,5 @@
--- `telnet_records::find_record` meets its contract. The invariant: from here on, after the bytes counted, the record is the one from the start.
--- The measure is what is left of the line. Assumes nothing.
+-- `telnet_records::find_record` meets its contract. The invariant: from here on, after the bytes counted, the record is
+-- the one from the start. The measure is what is left of the line. Assumes nothing.
 use mathlib.Core.Path.{_≡_, sym, subst, _∙_}
 use Prim.Native.Nat.{_-_, _≤_}
 use native.Mathlib.Omega.{arith}

@@ -1,4 +1,5 @@
--- `telnet_records::pass_event` meets its contract: an event stands there, since data of the record are left. Assumes nothing.
+-- `telnet_records::pass_event` meets its contract: an event stands there, since data of the record are left. Assumes
+-- nothing.
 use mathlib.Core.Path.{sym, ap, _∙_}
 use native.Mathlib.Omega.{arith}
 use lib.ListN.{length}

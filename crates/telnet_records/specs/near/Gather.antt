@@ -1,5 +1,6 @@
--- The gathering of a record, event by event and in the terms of places: what the private functions of this crate answer. No public promise
--- rests on these definitions; `proofs/Gathering.antt` has the laws that join them to `specs/Record.antt` of the crate `telnet`.
+-- The gathering of a record, event by event and in the terms of places: what the private functions of this crate
+-- answer. No public promise rests on these definitions; `proofs/Gathering.antt` has the laws that join them to
+-- `specs/Record.antt` of the crate `telnet`.
 use mathlib.Core.Path.{_≡_}
 use Prim.Native.Nat.{ℕ, _+_, _≤_, _<_}
 use mathlib.Core.Bool.{Bool, false}

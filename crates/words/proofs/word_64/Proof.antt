@@ -1,5 +1,5 @@
--- `words::word_64` meets its contract: after i bytes the number is that of the first i, and has no more than their bits. The measure is `8 - i`.
--- Assumes nothing.
+-- `words::word_64` meets its contract: after i bytes the number is that of the first i, and has no more than their
+-- bits. The measure is `8 - i`. Assumes nothing.
 use mathlib.Core.Path.{_≡_, sym, ap, _∙_}
 use Prim.Native.Nat.{suc, _+_, _-_, _*_, _%_, _^_, _≤_, _<_}
 use native.Mathlib.Numerals.{add-one}

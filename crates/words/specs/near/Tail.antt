@@ -1,4 +1,5 @@
--- The last blocks of a padded message, those after the last whole block of the message itself, for blocks of b bytes and a length of f.
+-- The last blocks of a padded message, those after the last whole block of the message itself, for blocks of b bytes
+-- and a length of f.
 use Prim.Native.Nat.{ℕ, _+_, _-_, _*_, _/_}
 use mathlib.Core.List.{List, _∷_, _++_}
 use lib.ListN.{length, replicate}

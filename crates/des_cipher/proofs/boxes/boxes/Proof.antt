@@ -1,4 +1,5 @@
--- `des_cipher::boxes::boxes` meets its contract: each of the 512 numbers is computed from its box, and is the array's. Assumes nothing.
+-- `des_cipher::boxes::boxes` meets its contract: each of the 512 numbers is computed from its box, and is the array's.
+-- Assumes nothing.
 use mathlib.Core.Path.{refl}
 use Rattle.des.specs.Blocks.{continued, permuted}
 use Rattle.des.specs.Cipher.{selected}

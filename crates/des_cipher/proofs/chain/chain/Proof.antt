@@ -1,5 +1,5 @@
--- `des_cipher::chain::chain` meets its contract: the chain over the blocks still to come, from the last one, gives the whole. The measure is
--- `length blocks - i`. Assumes nothing.
+-- `des_cipher::chain::chain` meets its contract: the chain over the blocks still to come, from the last one, gives the
+-- whole. The measure is `length blocks - i`. Assumes nothing.
 use mathlib.Core.Path.{_≡_, sym, _∙_}
 use mathlib.Core.List.{List}
 use Prim.Native.Nat.{ℕ, _+_, _-_, _≤_, _<_}

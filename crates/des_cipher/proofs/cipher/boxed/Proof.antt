@@ -1,5 +1,5 @@
--- `des_cipher::cipher::boxed` meets its contract: the mask leaves the six bits that count, and the number stands at its place of the array.
--- Assumes nothing.
+-- `des_cipher::cipher::boxed` meets its contract: the mask leaves the six bits that count, and the number stands at its
+-- place of the array. Assumes nothing.
 use mathlib.Core.List.{List, []}
 use Prim.Native.Nat.{ℕ, _-_, _*_, _/_, _^_}
 use native.Mathlib.Omega.{arith}

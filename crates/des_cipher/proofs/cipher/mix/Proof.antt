@@ -1,5 +1,5 @@
--- `des_cipher::cipher::mix` meets its contract: the loop puts the four bits of each box in its turn after those before. The measure is
--- `8 - j`. Assumes nothing.
+-- `des_cipher::cipher::mix` meets its contract: the loop puts the four bits of each box in its turn after those before.
+-- The measure is `8 - j`. Assumes nothing.
 use mathlib.Core.Path.{_≡_, sym, _∙_}
 use mathlib.Core.List.{[]}
 use Prim.Native.Nat.{suc, _-_, _*_, _/_, _^_, _≤_, _<_}

@@ -1,4 +1,5 @@
--- `des_cipher::cipher::permute_p` meets its contract: the code is linear, and agrees with the table at each of the 32 bits. Assumes nothing.
+-- `des_cipher::cipher::permute_p` meets its contract: the code is linear, and agrees with the table at each of the 32
+-- bits. Assumes nothing.
 use Prim.Native.Nat.{ℕ, _*_, _/_, _%_, _^_}
 use lib.Bits.{bitAnd, bitXor}
 use Rattle.des.specs.Blocks.{continued, permuted}

@@ -1,4 +1,5 @@
--- `des_cipher::cipher::widen` meets its contract: both sides are linear in R, and agree at each of its 32 bits. Assumes nothing.
+-- `des_cipher::cipher::widen` meets its contract: both sides are linear in R, and agree at each of its 32 bits. Assumes
+-- nothing.
 use mathlib.Core.Path.{_≡_, _∙_}
 use Prim.Native.Nat.{ℕ, suc, _-_, _*_, _/_, _%_, _^_, _<_}
 use lib.Dec.{T}

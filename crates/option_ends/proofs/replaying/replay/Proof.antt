@@ -1,5 +1,5 @@
--- `option_ends::replaying::replay` meets its contract: at each turn the ends and the totals are those of the bytes passed. The measure is
--- `length calls - i`. Assumes nothing.
+-- `option_ends::replaying::replay` meets its contract: at each turn the ends and the totals are those of the bytes
+-- passed. The measure is `length calls - i`. Assumes nothing.
 use mathlib.Core.Path.{_≡_, refl, ap, _∙_}
 use Prim.Native.Nat.{_-_, _≤_}
 use native.Mathlib.Omega.{arith}

@@ -1,4 +1,5 @@
--- `print_ledger::Ledger::complete` meets its contract: while one is held, what `octets::put` answers decides. Assumes nothing.
+-- `print_ledger::Ledger::complete` meets its contract: while one is held, what `octets::put` answers decides. Assumes
+-- nothing.
 use mathlib.Core.Path.{ap}
 use denote.Ref.{now}
 use borrow.Author.Needs.{needs}

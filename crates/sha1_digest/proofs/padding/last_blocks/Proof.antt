@@ -1,4 +1,5 @@
--- `sha1_digest::padding::last_blocks` meets its contract: the bytes of the message, the bit 1 and the length, put into zeros. Assumes nothing.
+-- `sha1_digest::padding::last_blocks` meets its contract: the bytes of the message, the bit 1 and the length, put into
+-- zeros. Assumes nothing.
 use mathlib.Core.Path.{_≡_, refl, _∙_, ap}
 use mathlib.Core.List.{List}
 use Prim.Native.Nat.{ℕ, _-_, _*_, _<_}
