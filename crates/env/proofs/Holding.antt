@@ -1,6 +1,6 @@
 -- Variables, their bytes and their records: what is recorded is held again (`Theorems.HoldsAgain`). Assumes nothing.
-use mathlib.Core.Path.{_≡_, refl, sym, _∙_}
-use mathlib.Core.List.{List, [], _∷_, _++_, append-assoc}
+use mathlib.Core.Path.{_≡_, refl, sym, ap, _∙_}
+use mathlib.Core.List.{List, [], _∷_, _++_, map, append-assoc}
 use mathlib.Core.Bool.{_&&_}
 use Prim.Native.Nat.{ℕ, _+_, _*_, _≤_}
 use native.Mathlib.Omega.{arith}
@@ -12,14 +12,23 @@ use Rattle.octets.specs.Lent.{overwrite}
 use Rattle.octets.proofs.Overwrite.{take-overwrite, length-overwrite}
 use Rattle.env.specs.Variable.{Variable, isKind}
 use Rattle.env.specs.Write.{kindsGood}
-use Rattle.env.specs.Numbers.{recordWidth, recordsOf, packed, recorded, held, fits, allPlaced, placed}
+use Rattle.env.specs.Numbers.{recordWidth, recordsOf, variableOf, packed, recorded, held, fits, allPlaced, placed}
 use Rattle.octets.specs.Part.{part}
 use Rattle.env.specs.Theorems.{HoldsAgain}
+use Rattle.env.proofs.Records.{records-short, records-cons, records-before}
 
 pub length-recorded : (at : ℕ) (vs : List Variable) → length (recorded at vs) ≡ recordWidth * length vs
 unfolding recorded
 length-recorded at [] = refl
 length-recorded at (v ∷ vs) = omega (arith, length-recorded (at + length (v .name) + length (v .value)) vs)
+
+-- the records of variables, and after them those of other numbers
+pub recorded-before : (at : ℕ) (vs : List Variable) (l : List ℕ) → recordsOf (recorded at vs ++ l) ≡ recordsOf (recorded at vs) ++ recordsOf l
+unfolding recorded
+recorded-before at [] l = ap (λ rs. rs ++ recordsOf l) (sym (records-short [] (omega arith)))
+recorded-before at (v ∷ vs) l =
+    let next = at + length (v .name) + length (v .value) in
+    rw records-cons (records-before _ _ (recorded-before next vs l))
 
 -- a list that begins with a ++ b: a stands in front, and b after it
 part-apart : (bytes : List ℕ) (at : ℕ) (a b : List ℕ) → part bytes at (length (a ++ b)) ≡ a ++ b
@@ -33,18 +42,18 @@ part-apart bytes at a b h =
 -- where variables are packed, their records hold them
 pub held-recorded : (bytes : List ℕ) (at : ℕ) (vs : List Variable) → part bytes at (length (packed vs)) ≡ packed vs
     → held bytes (recorded at vs) ≡ vs
-unfolding packed recorded held recordsOf
-held-recorded bytes at [] h = refl
+unfolding packed recorded held
+held-recorded bytes at [] h = ap (map (variableOf bytes)) (records-short [] (omega arith))
 held-recorded bytes at (v ∷ vs) h =
     let name = part-apart bytes at (v .name) (v .value ++ packed vs) h in
     let value = part-apart bytes (at + length (v .name)) (v .value) (packed vs) (name .1) in
-    rw (name .0, value .0, held-recorded bytes (at + length (v .name) + length (v .value)) vs (value .1))
+    rw (records-cons, name .0, value .0, held-recorded bytes (at + length (v .name) + length (v .value)) vs (value .1))
 
 -- where variables have kinds, and room, their records are placed
 pub placed-recorded : (bytes : List ℕ) (at : ℕ) (vs : List Variable) → T (kindsGood vs) → at + length (packed vs) ≤ length bytes
     → T (placed bytes (recorded at vs))
-unfolding packed recorded placed allPlaced recordsOf fits kindsGood
-placed-recorded bytes at [] g h = tt
+unfolding packed recorded placed allPlaced fits kindsGood
+placed-recorded bytes at [] g h = rw (records-short [] (omega arith)) tt
 placed-recorded bytes at (v ∷ vs) g h =
     let good = and-yes (isKind (v .kind)) (kindsGood vs) g in
     let name = length (v .name) in
@@ -52,10 +61,11 @@ placed-recorded bytes at (v ∷ vs) g h =
     let all : at + (name + (value + length (packed vs))) ≤ length bytes = simp length-append at h in
     let in-name = le→leb (at + name) (length bytes) (omega arith) in
     let in-value = le→leb (at + name + value) (length bytes) (omega arith) in
-    yes-and (isKind (v .kind) && (fits bytes at name && fits bytes (at + name) value)) (placed bytes (recorded (at + name + value) vs))
+    rw records-cons
+    (yes-and (isKind (v .kind) && (fits bytes at name && fits bytes (at + name) value)) (placed bytes (recorded (at + name + value) vs))
     (yes-and (isKind (v .kind)) (fits bytes at name && fits bytes (at + name) value) (good .0)
     (yes-and (fits bytes at name) (fits bytes (at + name) value) in-name in-value))
-    (placed-recorded bytes (at + name + value) vs (good .1) (omega arith))
+    (placed-recorded bytes (at + name + value) vs (good .1) (omega arith)))
 
 pub holds-again : HoldsAgain
 unfolding part

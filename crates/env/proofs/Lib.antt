@@ -1,5 +1,6 @@
 pub mod Rows
 pub mod Limits
+pub mod Records
 pub mod Holding
 pub mod Repeats
 pub mod Sound

@@ -1,11 +1,11 @@
 -- Variables as the code holds them: names and values in a buffer, and a list of variable records (the specification's
 -- own term), each with the kind, place and length of the name, place and length of the value. The list is one of
 -- numbers, `recordWidth` for each record.
-use Prim.Native.Nat.{ℕ, _+_, _*_}
+use Prim.Native.Nat.{ℕ, zero, suc, _+_, _*_, _/_}
 use mathlib.Core.Bool.{Bool, true, _&&_}
 use mathlib.Core.List.{List, [], _∷_, _++_, map}
 use lib.Dec.{leb}
-use lib.ListN.{length, take, drop}
+use lib.ListN.{length, getD, drop}
 use Rattle.octets.specs.Part.{part}
 use Rattle.env.specs.declared.VariableRecord.{VariableRecord}
 use Rattle.env.specs.Variable.{Variable, variable, isKind, variableLimit}
@@ -26,14 +26,18 @@ recordOf k a n b m = record { kind = k; «name_at» = a; «name_length» = n; «
 abbrev pub numbersOf : VariableRecord → List ℕ
 numbersOf r = r .kind ∷ r .«name_at» ∷ r .«name_length» ∷ r .«value_at» ∷ r .«value_length» ∷ []
 
+-- the record at the front of numbers; a number that is missing is 0
+abbrev pub recordIn : List ℕ → VariableRecord
+recordIn numbers = recordOf (getD numbers 0 0) (getD numbers 1 0) (getD numbers 2 0) (getD numbers 3 0) (getD numbers 4 0)
+
+-- the first k records of numbers
+unfoldable pub recordsFrom : ℕ → List ℕ → List VariableRecord
+recordsFrom zero numbers = []
+recordsFrom (suc k) numbers = recordIn numbers ∷ recordsFrom k (drop recordWidth numbers)
+
 -- the records that numbers hold; what is left when they are too few for another is no record
 unfoldable pub recordsOf : List ℕ → List VariableRecord
-recordsOf [] = []
-recordsOf (k ∷ []) = []
-recordsOf (k ∷ a ∷ []) = []
-recordsOf (k ∷ a ∷ n ∷ []) = []
-recordsOf (k ∷ a ∷ n ∷ b ∷ []) = []
-recordsOf (k ∷ a ∷ n ∷ b ∷ m ∷ numbers) = recordOf k a n b m ∷ recordsOf numbers
+recordsOf numbers = recordsFrom (length numbers / recordWidth) numbers
 
 -- names and values back to back
 unfoldable pub packed : List Variable → List ℕ

@@ -5,7 +5,7 @@ use Prim.Native.Nat.{ℕ, zero, suc, _+_, _≤_, _<_}
 use native.Mathlib.Numerals.{add-one}
 use native.Mathlib.Omega.{arith}
 use lib.ListN.{length, set, take, drop, length-append, length-drop}
-use lib.Seq.{drop-cons, set-at, append-snoc, take-suc, take-all}
+use lib.Seq.{drop-cons, set-at, append-snoc, take-suc}
 use Rattle.env.specs.Numbers.{recordsOf}
 use Rattle.env_list.specs.near.Firsts.{firstRecords}
 use Rattle.env.specs.declared.VariableRecord.{VariableRecord}
@@ -16,14 +16,11 @@ unfolding firstRecords
 length-firsts numbers zero = refl
 length-firsts numbers (suc n) = rw (length-append, length-firsts numbers n) (omega arith)
 
--- the first records are the front of all, and all where there are so many
-firsts-front : (numbers : List ℕ) (n : ℕ) → n ≤ length (recordsOf numbers) → firstRecords numbers n ≡ take n (recordsOf numbers)
+-- the first records are the front of all
+pub firsts-front : (numbers : List ℕ) (n : ℕ) → n ≤ length (recordsOf numbers) → firstRecords numbers n ≡ take n (recordsOf numbers)
 unfolding firstRecords
 firsts-front numbers zero h = refl
 firsts-front numbers (suc n) h = rw (firsts-front numbers n (omega arith)) (sym (take-suc (recordsOf numbers) n blank h))
-
-pub firsts-all : (numbers : List ℕ) (n : ℕ) → n ≡ length (recordsOf numbers) → firstRecords numbers n ≡ recordsOf numbers
-firsts-all numbers n e = firsts-front numbers n (omega arith) ∙ take-all n (recordsOf numbers) (omega arith)
 
 -- the list once the first k records are set
 abbrev pub begun : List ℕ → ℕ → List VariableRecord → List VariableRecord

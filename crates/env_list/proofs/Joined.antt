@@ -2,10 +2,11 @@
 -- room, are what `readRecords` says. Assumes nothing.
 use mathlib.Core.Path.{_≡_, refl, ap, _∙_}
 use mathlib.Core.List.{List, _++_, append-assoc}
-use Prim.Native.Nat.{ℕ, zero, suc, _+_, _*_, _/_, _≤_, _<_}
+use Prim.Native.Nat.{ℕ, _+_, _*_, _≤_, _<_}
 use native.Mathlib.Omega.{arith}
 use lib.Dec.{ltb}
-use lib.ListN.{length, take, drop, length-take, length-append, List·getD-append}
+use lib.ListN.{length, take, drop, length-take, length-append}
+use lib.Seq.{take-at}
 use borrow.Author.Tests.{ltb-false}
 use Rattle.env_list.specs.near.Firsts.{firstRecords, countOf, Numbered}
 use Rattle.octets.proofs.Order.{ltb-iff}
@@ -13,46 +14,31 @@ use Rattle.octets.specs.Lent.{outcome, overwrite}
 use Rattle.env.specs.Variable.{Variable, variableLimit}
 use Rattle.env.specs.Read.{Reading, says, notRead, readingOf}
 use Rattle.env.specs.Numbers.{recordWidth, listLimit, recordsOf, packed, recorded}
-use Rattle.env.proofs.Holding.{length-recorded}
+use Rattle.env.proofs.Holding.{length-recorded, recorded-before}
+use Rattle.env.proofs.Records.{length-records}
 use Rattle.env.proofs.Sound.{Reads, reads}
 use Rattle.env.specs.declared.VariableRecord.{VariableRecord}
-use Rattle.env_records.specs.Records.{recordAt}
-use Rattle.env_records.proofs.Steps.{record-of, length-records}
 use Rattle.env_delivery.specs.declared.Answer.{Answer}
 use Rattle.env_delivery.specs.declared.Answer.the-variants.{Read}
 use Rattle.env_delivery.specs.Promise.{delivery, delivered, readInto}
 use Rattle.env_list.specs.Lists.{listing}
 use Rattle.env_list.specs.Reading.{listed}
-use Rattle.env_list.proofs.Firsts.{begun, firsts-all}
+use Rattle.env_list.proofs.Firsts.{begun, firsts-front}
 use Rattle.env_list.proofs.Walks.{either}
-
--- a record that stands in the first of two lists
-record-front : (l m : List ℕ) (i : ℕ) → recordWidth * (i + 1) ≤ length l → recordAt (l ++ m) i ≡ recordAt l i
-record-front l m i h =
-    let all : i < length (l ++ m) / recordWidth = rw length-append (omega arith) in
-    rw (
-      record-of (l ++ m) i all,
-      record-of l i (omega arith),
-      List·getD-append l m 0 (recordWidth * i) (omega arith),
-      List·getD-append l m 0 (recordWidth * i + 1) (omega arith),
-      List·getD-append l m 0 (recordWidth * i + 2) (omega arith),
-      List·getD-append l m 0 (recordWidth * i + 3) (omega arith),
-      List·getD-append l m 0 (recordWidth * i + 4) (omega arith),
-    )
-
-firsts-front : (l m : List ℕ) (n : ℕ) → recordWidth * n ≤ length l → firstRecords (l ++ m) n ≡ firstRecords l n
-unfolding firstRecords
-firsts-front l m zero h = refl
-firsts-front l m (suc n) h = rw (firsts-front l m n (omega arith), record-front l m n (omega arith))
 
 -- the first records of variables, whatever numbers are after theirs, are all of them
 firsts-recorded : (vs : List Variable) (nums rest : List ℕ)
     → firstRecords (overwrite nums 0 (recorded 0 vs) ++ rest) (length vs) ≡ recordsOf (recorded 0 vs)
 unfolding overwrite
 firsts-recorded vs nums rest =
-    let e = length-recorded 0 vs in
+    let more = drop (0 + length (recorded 0 vs)) nums ++ rest in
+    let records = recordsOf (recorded 0 vs) in
+    let all : length records ≡ length vs = omega (arith, length-records (recorded 0 vs), length-recorded 0 vs) in
+    let apart = recorded-before 0 vs more in
     rw (append-assoc (recorded 0 vs) (drop (0 + length (recorded 0 vs)) nums) rest)
-    (firsts-front (recorded 0 vs) _ (length vs) (omega arith) ∙ firsts-all (recorded 0 vs) (length vs) (omega (arith, length-records (recorded 0 vs))))
+    (firsts-front (recorded 0 vs ++ more) (length vs) (rw (apart, length-append) (omega (arith, all)))
+    ∙ ap (take (length vs)) apart
+    ∙ take-at records (recordsOf more) (length vs) all)
 
 -- numbers and a list of records have room for the same number of variables
 abbrev pub SameRoom : List ℕ → ℕ → Type 0

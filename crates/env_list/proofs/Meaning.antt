@@ -13,7 +13,7 @@ use Rattle.env.specs.Variable.{Variable}
 use Rattle.env.specs.Read.{Reading, says, notRead, readingOf}
 use Rattle.env.specs.Numbers.{recordsOf, variableOf, packed, recorded, held}
 use Rattle.env.proofs.Holding.{length-recorded, holds-again}
-use Rattle.env_records.proofs.Steps.{length-records}
+use Rattle.env.proofs.Records.{length-records}
 use Rattle.env_delivery.specs.declared.Answer.the-variants.{Read, Refused}
 use Rattle.env_list.specs.Reading.{listed}
 use Rattle.env_list.specs.Theorems.{ListsTheVariables}

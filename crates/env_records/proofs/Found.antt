@@ -33,7 +33,7 @@ unfolding placeOf held
 finds-the-value kind name bytes numbers = finds-in kind name bytes (recordsOf numbers)
 
 -- whether a value has a place
-unfoldable pub there : ValuePlace → Bool
+unfoldable there : ValuePlace → Bool
 there Absent = false
 there (At a n) = true
 
@@ -50,7 +50,7 @@ there-in kind name bytes (r ∷ rs) =
     there-of (r .«value_at») (r .«value_length») (is kind name (variableOf bytes r)) (placeIn kind name bytes rs)
     (among kind name (map (variableOf bytes) rs)) (there-in kind name bytes rs)
 
-pub there-among : (kind : ℕ) (name bytes numbers : List ℕ) → there (placeOf kind name bytes numbers) ≡ among kind name (held bytes numbers)
+there-among : (kind : ℕ) (name bytes numbers : List ℕ) → there (placeOf kind name bytes numbers) ≡ among kind name (held bytes numbers)
 unfolding placeOf held
 there-among kind name bytes numbers = there-in kind name bytes (recordsOf numbers)
 

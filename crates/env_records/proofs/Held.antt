@@ -7,7 +7,8 @@ use native.Mathlib.Omega.{arith}
 use lib.ListN.{length, getD, drop}
 use lib.Seq.{getD-drop}
 use Rattle.env_records.specs.Records.{recordAt}
-use Rattle.env_records.proofs.Steps.{records-from, length-records, held-step}
+use Rattle.env_records.proofs.Steps.{held-step}
+use Rattle.env.proofs.Records.{records-from, length-records}
 use Rattle.env.specs.declared.VariableRecord.{VariableRecord}
 use Rattle.env.specs.Variable.{Variable}
 use Rattle.env.specs.Numbers.{recordWidth, recordsOf, variableOf, held}

@@ -1,4 +1,3 @@
-pub mod Fives
 pub mod Found
 pub mod Held
 pub mod Steps

@@ -6,12 +6,12 @@ use Rattle.env.specs.declared.VariableRecord.{VariableRecord}
 use Rattle.env_records.specs.declared.ValuePlace.{ValuePlace}
 use Rattle.env_records.specs.declared.ValuePlace.the-variants.{Absent, At}
 use Rattle.env.specs.Variable.{is}
-use Rattle.env.specs.Numbers.{recordOf, recordsOf, variableOf}
+use Rattle.env.specs.Numbers.{recordIn, recordsOf, variableOf}
 use Rattle.octets.specs.Choice.{if_then_else_}
 
 -- the record of a place that a list does not have
 abbrev pub blank : VariableRecord
-blank = recordOf 0 0 0 0 0
+blank = recordIn []
 
 -- record i of those that numbers hold, from 0 on
 abbrev pub recordAt : List ℕ → ℕ → VariableRecord

@@ -6,7 +6,7 @@ ghost use lib.Dec.{leb};
 ghost use lib.ListN.{length, drop};
 ghost use Rattle.env_records.specs.Records.{recordAt, placeOf};
 ghost use Rattle.env.specs.Variable.{isFirst, isKind, is, among, repeated, lookup, valueOr};
-ghost use Rattle.env.specs.Numbers.{recordWidth, numbersOf, variableOf, held};
+ghost use Rattle.env.specs.Numbers.{recordWidth, recordOf, numbersOf, variableOf, held};
 ghost use Rattle.octets.specs.Lent.{outcome};
 ghost use Rattle.octets.specs.Promise.{putAt};
 use env::RECORD_WIDTH;
@@ -38,28 +38,40 @@ pub fn is_kind(kind: usize) -> bool
     kind == 3
 }
 
+// The record of a kind, and of the places and lengths of a name and a value: what makes a record of numbers calls it.
+pub fn record_of(
+    kind: usize,
+    name_at: usize,
+    name_length: usize,
+    value_at: usize,
+    value_length: usize,
+) -> VariableRecord
+    ensures { λ r. ⌜ r ≡ recordOf kind «name_at» «name_length» «value_at» «value_length» ⌝ }
+{
+    VariableRecord {
+        kind: kind,
+        name_at: name_at,
+        name_length: name_length,
+        value_at: value_at,
+        value_length: value_length,
+    }
+}
+
 // Record i of a list; all zeros where the list has no such record.
 pub fn record_at(numbers: &[usize], i: usize) -> VariableRecord
     ensures { λ r. ⌜ r ≡ recordAt (now (numbers .entry)) i ⌝ }
 {
-    let blank = VariableRecord {
-        kind: 0,
-        name_at: 0,
-        name_length: 0,
-        value_at: 0,
-        value_length: 0,
-    };
     if i >= numbers.len() / RECORD_WIDTH {
-        return blank;
+        return record_of(0, 0, 0, 0, 0);
     }
     let at = RECORD_WIDTH * i;
-    VariableRecord {
-        kind: numbers[at],
-        name_at: numbers[at + 1],
-        name_length: numbers[at + 2],
-        value_at: numbers[at + 3],
-        value_length: numbers[at + 4],
-    }
+    record_of(
+        numbers[at],
+        numbers[at + 1],
+        numbers[at + 2],
+        numbers[at + 3],
+        numbers[at + 4],
+    )
 }
 
 // Sets record i of a list; false, and nothing is set, where the list is too short.
@@ -121,8 +133,22 @@ pub fn value_of<'a>(bytes: &'a [u8], numbers: &[usize], kind: usize, name: &[u8]
     }
 }
 
+// Whether one of the records from record `from` on is of a kind and name.
+fn occurs(bytes: &[u8], numbers: &[usize], from: usize, kind: usize, name: &[u8]) -> bool
+    ensures { λ r. ⌜ r ≡ among kind (now (name .entry)) (held (now (bytes .entry)) (drop (recordWidth * from) (now (numbers .entry)))) ⌝ }
+{
+    let mut i = from;
+    while i < numbers.len() / RECORD_WIDTH {
+        if is_of(bytes, record_at(numbers, i), kind, name) {
+            return true;
+        }
+        i += 1;
+    }
+    false
+}
+
 // Whether a record after record i is of the same kind and name.
-fn occurs_behind(bytes: &[u8], numbers: &[usize], i: usize) -> bool
+fn occurs_after(bytes: &[u8], numbers: &[usize], i: usize) -> bool
     requires { ⌜ i < length (now numbers) / recordWidth ⌝ }
     ensures { λ r. ⌜
         (let v = variableOf (now (bytes .entry)) (recordAt (now (numbers .entry)) i) in
@@ -131,13 +157,7 @@ fn occurs_behind(bytes: &[u8], numbers: &[usize], i: usize) -> bool
 {
     let v = record_at(numbers, i);
     let name = octets_part::part(bytes, v.name_at, v.name_length);
-    let next = RECORD_WIDTH * (i + 1);
-    let length = numbers.len();
-    let place = find(bytes, &numbers[next..length], v.kind, name);
-    match place {
-        ValuePlace::Absent => false,
-        ValuePlace::At(_, _) => true,
-    }
+    occurs(bytes, numbers, i + 1, v.kind, name)
 }
 
 // Whether two records are of the same kind and name.
@@ -146,7 +166,7 @@ pub fn repeats(bytes: &[u8], numbers: &[usize]) -> bool
 {
     let mut i = 0;
     while i < numbers.len() / RECORD_WIDTH {
-        if occurs_behind(bytes, numbers, i) {
+        if occurs_after(bytes, numbers, i) {
             return true;
         }
         i += 1;

@@ -44,16 +44,16 @@ name-variables (variables vs) count used before r after is e =
     let n : count ≡ 0 + length vs = cc in
     let m : used ≡ 0 + length (packed vs) = cc in
     let all : used ≡ length (packed vs) = omega (arith, m) in
-    let five : recordWidth * count ≡ length (recorded 0 vs) = omega (arith, n, length-recorded 0 vs) in
+    let counted : recordWidth * count ≡ length (recorded 0 vs) = omega (arith, n, length-recorded 0 vs) in
     let read : AllRead (variables vs) (after .bytes) (after .numbers) count used = record {
       all = vs;
       those = refl;
       texts = rw (is .texts, all) (take-overwrite-front (before .bytes) (packed vs));
-      records = rw (is .records, five) (take-overwrite-front (before .numbers) (recorded 0 vs));
+      records = rw (is .records, counted) (take-overwrite-front (before .numbers) (recorded 0 vs));
     } in (
       omega (arith, n, is .limit),
       omega (arith, all, ap length (read .texts), length-take used (after .bytes)),
-      omega (arith, five, ap length (read .records), length-take (recordWidth * count) (after .numbers)),
+      omega (arith, counted, ap length (read .records), length-take (recordWidth * count) (after .numbers)),
       read,
     )
 

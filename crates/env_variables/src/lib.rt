@@ -4,7 +4,6 @@
 // and a list of the reader's own; what is lent is touched only when nothing can be refused any more.
 ghost use mathlib.Core.Bool.{true};
 ghost use mathlib.Core.Path.{_≡_};
-ghost use mathlib.Core.List.{[], _∷_};
 ghost use Prim.Native.Nat.{_+_, _*_, _≤_, _<_};
 ghost use lib.ListN.{length};
 ghost use Rattle.env_variables.specs.near.Found.{buffers, NameRead};
@@ -12,7 +11,7 @@ ghost use Rattle.env_variables.specs.near.Texts.{givesValue, IsTaken};
 ghost use Rattle.env_variables.specs.near.Turns.{fromName, fromValue, HasRoom, IsValue, ValueRead};
 ghost use Rattle.env_text.specs.Text.{endsText};
 ghost use Rattle.env.specs.Variable.{isKind, variableLimit};
-ghost use Rattle.env.specs.Numbers.{recordWidth, listLimit};
+ghost use Rattle.env.specs.Numbers.{recordWidth, recordOf, numbersOf, listLimit};
 ghost use Rattle.telnet.specs.Event.{payloadLimit};
 ghost use Rattle.env.specs.Fields.{rowOf};
 ghost use Rattle.env.specs.Read.{variablesOf};
@@ -22,10 +21,10 @@ use env::LIST_LIMIT;
 use env::PAYLOAD_LIMIT;
 use env::RECORD_WIDTH;
 use env::VARIABLE_LIMIT;
-use env::VariableRecord;
 use env_delivery::Answer;
 use env_delivery::deliver;
 use env_records::is_kind;
+use env_records::record_of;
 use env_records::set_record;
 use env_text::Text;
 use env_text::copy_text;
@@ -89,16 +88,9 @@ fn take_value(rest: &[u8], bytes: &mut [u8], at: usize) -> Text
 // Sets record k: a name of n bytes, and m bytes of its value after it.
 fn store(numbers: &mut [usize], k: usize, kind: u8, at: usize, n: usize, m: usize)
     requires { ⌜ (k < variableLimit) × (listLimit ≤ length (now numbers)) × (at + n ≤ payloadLimit) ⌝ }
-    ensures { λ _. ⌜ now (numbers .exit) ≡ overwrite (now (numbers .entry)) (recordWidth * k) (kind ∷ at ∷ n ∷ (at + n) ∷ m ∷ []) ⌝ }
+    ensures { λ _. ⌜ now (numbers .exit) ≡ overwrite (now (numbers .entry)) (recordWidth * k) (numbersOf (recordOf kind at n (at + n) m)) ⌝ }
 {
-    let record = VariableRecord {
-        kind: kind as usize,
-        name_at: at,
-        name_length: n,
-        value_at: at + n,
-        value_length: m,
-    };
-    set_record(numbers, k, record);
+    set_record(numbers, k, record_of(kind as usize, at, n, at + n, m));
 }
 
 // A name is expected, or nothing. A VALUE in its place is a fault with a number.

@@ -1,8 +1,8 @@
 // Environment strings, for a caller in C. Each function answers with numbers: which number stands for what is said at
 // the structs and in `specs/Numbers.antt`. A `refusal` is 0 where there is none; else it is the refusal's number, and
-// every other field is 0. A slice is a pointer and a length. A list of variable records is a slice of numbers, five for
-// each: its kind (0 VAR, 3 USERVAR), the place and the length of its name in a buffer, and the place and the length of
-// its value there.
+// every other field is 0. A slice is a pointer and a length. A list of variable records is a slice of numbers,
+// RECORD_WIDTH for each: its kind (0 VAR, 3 USERVAR), the place and the length of its name in a buffer, and the place
+// and the length of its value there.
 ghost use mathlib.Core.Path.{_≡_};
 ghost use Rattle.export_env.specs.Numbers.{payloadNumbers, readOut, readNumbers, writtenNumbers, placeNumbers};
 ghost use Rattle.export.specs.Numbers.{numbered};

@@ -1,8 +1,9 @@
 // Runs the reader of environment strings into a lent list of variable records, on the cases of standard input, which
-// are laid out as those of `run_env_reader`: the room lent for numbers is five times the records lent, at most 66.
+// are laid out as those of `run_env_reader`: the room lent for numbers is RECORD_WIDTH times the records lent, at most
+// 66.
 //
-// The list is filled with records of five 7s before the call, so that a line of output is that of `run_env_reader`: the
-// answer, all lent bytes, and the five numbers of every lent record. `stdout` is that of `run_env_reader` for the same
+// The list is filled with records of 7s before the call, so that a line of output is that of `run_env_reader`: the
+// answer, all lent bytes, and the numbers of every lent record. `stdout` is that of `run_env_reader` for the same
 // cases.
 use env::RECORD_WIDTH;
 use env::VariableRecord;

@@ -1,8 +1,8 @@
 // Runs `set` and `get` of a lent list of variable records on the cases of standard input, one a line: a title, a colon,
-// and in hexadecimal digits the place to set and the place to get, a byte each. Of two records of five 7s, the record
-// at the first place is set to 1, 2, 3, 4 and 5, and that at the second is got.
+// and in hexadecimal digits the place to set and the place to get, a byte each. Of two records of 7s, the record at the
+// first place is set to 1, 2, 3, 4 and 5, and that at the second is got.
 //
-// A line of output has the title, what `set` answered, and the five numbers of the record. `stdout` is by hand from the
+// A line of output has the title, what `set` answered, and the numbers of the record. `stdout` is by hand from the
 // promises of `env_list`.
 use env::VariableRecord;
 use env_list::get;

@@ -1,6 +1,9 @@
 -- `env_delivery::deliver` meets its contract. Assumes nothing.
-use mathlib.Core.Path.{sym, _∙_}
+use mathlib.Core.Path.{_≡_, sym, _∙_}
+use mathlib.Core.Bool.{Bool, true, false}
 use borrow.Author.Needs.{needs}
+use Rattle.env.specs.Variable.{repeated}
+use Rattle.env.specs.Numbers.{held}
 use Rattle.env_delivery.specs.Promise.{deliverRead}
 use Rattle.env_delivery.proofs.deliver.Statement.{statement}
 use Rattle.env_delivery.proofs.deliver.Tie as tie
@@ -8,9 +11,14 @@ use Rattle.env_delivery.proofs.deliver.Tie as tie
 repeats-requires : tie.Need-repeats-requires
 repeats-requires c κs = search needs
 
+-- what is known of repeats, by what `repeats` answered
+told : (c : tie.After-repeats) → let a = c .before .before .before .before .before .args in
+    (t : Bool) → c .repeats .result ≡ t → repeated (held (a .texts .now) (a .records .now)) ≡ t
+told c t e = sym (c .repeats .ensures) ∙ e
+
 returns : tie.Need-returns
 unfolding deliverRead
-returns c = rw (sym (c .before .repeats .ensures) ∙ c .if1 .taken)
+returns c = rw (told (c .before) true (c .if1 .taken))
 
 hand-over-requires : tie.Need-hand-over-requires
 hand-over-requires c κs = search needs
@@ -24,8 +32,9 @@ same-length-2 c = search needs
 returns-2 : tie.Need-returns-2
 unfolding deliverRead
 returns-2 c =
-    let once = c .before .before .before .before .before .before .before in
-    rw (sym (once .before .repeats .ensures) ∙ once .if1 .left) (c .before .before .before .before .hand-over .ensures)
+    let handed = c .before .before .before .before in
+    let once = handed .before .before .before in
+    rw (told (once .before) false (once .if1 .left)) (handed .hand-over .ensures)
 
 pub deliver-spec : {M : Type 1} → statement M
 deliver-spec = tie.close (tie.spec repeats-requires returns hand-over-requires same-length same-length-2 returns-2)

@@ -1,7 +1,7 @@
 -- `env_records::find` meets its contract. The loop's invariant: the place that the records from i on give is the one
 -- that all give. The measure is how many are left. Assumes nothing.
-use mathlib.Core.Path.{_≡_, sym, ap, _∙_}
-use mathlib.Core.Bool.{true, false}
+use mathlib.Core.Path.{_≡_, sym, _∙_}
+use mathlib.Core.Bool.{Bool, true, false}
 use Prim.Native.Nat.{_*_, _/_, _-_}
 use native.Mathlib.Omega.{arith}
 use borrow.Author.Needs.{needs}
@@ -9,7 +9,7 @@ use lib.ListN.{length, drop}
 use Rattle.env.specs.Variable.{is}
 use Rattle.env_records.specs.Records.{recordAt, placeOf}
 use Rattle.env.specs.Numbers.{recordWidth, variableOf}
-use Rattle.env_records.proofs.Steps.{place-step, place-end}
+use Rattle.env_records.proofs.Steps.{place-step, place-end, tested}
 use Rattle.env_records.proofs.find.Statement.{statement}
 use Rattle.env_records.proofs.find.Tie as tie
 
@@ -28,16 +28,22 @@ record-at-requires c κs = search needs
 is-of-requires : tie.Need-is-of-requires Inv-loop μ-loop
 is-of-requires c κs = search needs
 
+-- the test of record i, by what it answered
+test : (c : tie.After-is-of Inv-loop μ-loop) → let l = c .before .before .before .loop in
+    let s = c .before .before .before .before .before .before .before .args in
+    (t : Bool) → c .is-of .result ≡ t → is (s .kind) (s .name .now) (variableOf (s .bytes .now) (recordAt (s .numbers .now) (l .i))) ≡ t
+test c t e =
+    let l = c .before .before .before .loop in
+    let s = c .before .before .before .before .before .before .before .args in
+    let read = c .before .record-at in
+    tested (s .kind) (s .name .now) (s .bytes .now) (s .numbers .now) (l .i) (read .result) (c .is-of .result) t (read .ensures) (c .is-of .ensures) e
+
 returns : tie.Need-returns Inv-loop μ-loop
 returns c =
     let l = c .before .before .before .before .loop in
     let s = c .before .before .before .before .before .before .before .before .args in
-    let test : is (s .kind) (s .name .now) (variableOf (s .bytes .now) (recordAt (s .numbers .now) (l .i))) ≡ true =
-    ap (λ v. is (s .kind) (s .name .now) (variableOf (s .bytes .now) v)) (sym (c .before .before .record-at .ensures))
-    ∙ sym (c .before .is-of .ensures)
-    ∙ c .if1 .taken
-    in
-    sym (sym (l .inv) ∙ rw (place-step (s .kind) (s .name .now) (s .bytes .now) (s .numbers .now) (l .i) (omega arith), test, ← c .before .before .record-at .ensures))
+    let step = place-step (s .kind) (s .name .now) (s .bytes .now) (s .numbers .now) (l .i) (omega arith) in
+    sym (sym (l .inv) ∙ rw (step, test (c .before) true (c .if1 .taken), ← c .before .before .record-at .ensures))
 
 add-i : tie.Need-add-i Inv-loop μ-loop
 add-i c = search needs
@@ -49,12 +55,7 @@ loop-again : tie.Need-loop-again Inv-loop μ-loop
 loop-again c =
     let l = c .before .before .before .before .loop in
     let s = c .before .before .before .before .before .before .before .before .args in
-    let test : is (s .kind) (s .name .now) (variableOf (s .bytes .now) (recordAt (s .numbers .now) (l .i))) ≡ false =
-    ap (λ v. is (s .kind) (s .name .now) (variableOf (s .bytes .now) v)) (sym (c .before .before .record-at .ensures))
-    ∙ sym (c .before .is-of .ensures)
-    ∙ c .if1 .left
-    in
-    rw (place-step (s .kind) (s .name .now) (s .bytes .now) (s .numbers .now) (l .i) (omega arith), test) at (l .inv)
+    rw (place-step (s .kind) (s .name .now) (s .bytes .now) (s .numbers .now) (l .i) (omega arith), test (c .before) false (c .if1 .left)) at (l .inv)
 
 returns-2 : tie.Need-returns-2 Inv-loop μ-loop
 returns-2 c =

@@ -20,14 +20,14 @@ abbrev μ-loop : tie.MeasureT-loop
 loop-holds : tie.Need-loop-holds Inv-loop μ-loop
 loop-holds c = search needs
 
-occurs-behind-requires : tie.Need-occurs-behind-requires Inv-loop μ-loop
-occurs-behind-requires c κs = search needs
+occurs-after-requires : tie.Need-occurs-after-requires Inv-loop μ-loop
+occurs-after-requires c κs = search needs
 
 returns : tie.Need-returns Inv-loop μ-loop
 returns c =
     let l = c .before .before .before .loop in
     let s = c .before .before .before .before .before .before .args in
-    sym (sym (l .inv) ∙ rw (repeated-step (s .bytes .now) (s .numbers .now) (l .i) (omega arith), ← c .before .occurs-behind .ensures, c .if1 .taken))
+    sym (sym (l .inv) ∙ rw (repeated-step (s .bytes .now) (s .numbers .now) (l .i) (omega arith), ← c .before .occurs-after .ensures, c .if1 .taken))
 
 add-i : tie.Need-add-i Inv-loop μ-loop
 add-i c = search needs
@@ -39,7 +39,7 @@ loop-again : tie.Need-loop-again Inv-loop μ-loop
 loop-again c =
     let l = c .before .before .before .loop in
     let s = c .before .before .before .before .before .before .args in
-    rw (repeated-step (s .bytes .now) (s .numbers .now) (l .i) (omega arith), ← c .before .occurs-behind .ensures, c .if1 .left) at (l .inv)
+    rw (repeated-step (s .bytes .now) (s .numbers .now) (l .i) (omega arith), ← c .before .occurs-after .ensures, c .if1 .left) at (l .inv)
 
 returns-2 : tie.Need-returns-2 Inv-loop μ-loop
 returns-2 c =
@@ -54,7 +54,7 @@ repeats-spec =
     Inv-loop
     μ-loop
     loop-holds
-    occurs-behind-requires
+    occurs-after-requires
     returns
     add-i
     loop-less

@@ -8,7 +8,7 @@ use lib.ListN.{length, length-set}
 use Rattle.octets.specs.Lent.{outcome}
 use Rattle.octets.proofs.Promise.{put-fits, put-refused}
 use Rattle.env.specs.Numbers.{recordWidth, numbersOf}
-use Rattle.env_records.proofs.Stored.{five-stored}
+use Rattle.env_records.proofs.Stored.{record-stored}
 use Rattle.env_records.proofs.set_record.Statement.{statement}
 use Rattle.env_records.proofs.set_record.Tie as tie
 
@@ -68,7 +68,7 @@ returns-2 c =
     let s = c .before .args in
     let v = s .v in
     let room : recordWidth * s .i + recordWidth ≤ length (s .numbers .now) = omega arith in
-    ap (outcome true) (five-stored (s .numbers .now) (recordWidth * s .i) (v .kind) (v .«name_at») (v .«name_length») (v .«value_at») (v .«value_length») room)
+    ap (outcome true) (record-stored (s .numbers .now) (recordWidth * s .i) v room)
     ∙ sym (put-fits (numbersOf v) (s .numbers .now) (recordWidth * s .i) room)
 
 pub set-record-spec : {M : Type 1} → statement M

@@ -1,13 +1,15 @@
 -- `env_variables::name` and `env_variables::value` meet their contracts: each way through either is one of the laws of
 -- the turns. What is left of the payload falls; a value reader that finds no VALUE hands on all of it, so it counts one
 -- more. Assumes nothing.
-use mathlib.Core.Path.{sym, _∙_}
+use mathlib.Core.Path.{_≡_, sym, _∙_}
+use mathlib.Core.Bool.{true}
 use native.Mathlib.Omega.{arith}
-use lib.ListN.{length, drop}
+use lib.ListN.{length, getD, drop}
 use borrow.Author.Tests.{not-true, not-false}
+use Rattle.env.specs.Variable.{isKind, variableLimit}
 use Rattle.refusal.specs.Refusal.{noVariable, badEscape, tooManyVariables}
 use Rattle.env_variables.specs.near.Found.{buffers}
-use Rattle.env_text.specs.Text.{textOf}
+use Rattle.env_text.specs.Text.{textOf, endsText}
 use Rattle.octets.proofs.Front.{empty, to-the-end}
 use Rattle.env_variables.proofs.Turning.{from-nil, from-value, from-other, from-kind, names-full, names-broken, names-empty, name-none, name-fault, name-turn}
 use Rattle.env_variables.proofs.Turning.{value-turn, value-fault}
@@ -52,6 +54,51 @@ name-claims t = (opens-reads.Asked, opens-reads.Learnt, take-text-reads.Asked, t
 abbrev value-claims : ℕ → value-lts.Claims
 value-claims t = (take-value-reads.Asked, take-value-reads.Learnt, store-reads.Asked, store-reads.Learnt, name-below t, name.Post)
 
+-- the places of either reader whose facts several needs cite: the start from each of them, and what is known there
+module _ (t : ℕ) where
+  abbrev name-opened : Type 0
+  name-opened = name-lts.Else3 (name-claims t) (name-at t) name.Post
+
+  abbrev name-taken : Type 0
+  name-taken = name-lts.After-take-text (name-claims t) (name-at t) name.Post
+
+  abbrev name-whole : Type 0
+  name-whole = name-lts.Else5 (name-claims t) (name-at t) name.Post
+
+  abbrev value-taken : Type 0
+  value-taken = value-lts.After-take-value (value-claims t) (value-at t) value.Post
+
+  abbrev name-start : name-opened → name-lts.Start (name-claims t) (name-at t) name.Post
+  name-start c = c .before .before .before .before .before .before .before .before
+
+  abbrev opened-before : name-taken → name-opened
+  opened-before c = c .before .before .before
+
+  abbrev taken-before : name-whole → name-taken
+  taken-before c = c .before .before .before .before
+
+  abbrev value-start : value-taken → value-lts.Start (value-claims t) (value-at t) value.Post
+  value-start c = c .before .before .before .before .before
+
+  -- a VAR or USERVAR stands before the name
+  opens-here : (c : name-opened) → isKind (getD (name-start c .args .rest .now) 0 0) ≡ true
+  opens-here c = sym (c .before .opens .ensures) ∙ not-false (c .before .opens .result) (c .if3 .left)
+
+  some-left : (c : name-opened) → 0 < length (name-start c .args .rest .now)
+  some-left c = omega arith
+
+  -- there is room for one more variable
+  few-yet : (c : name-taken) → name-start (opened-before c) .args .k < variableLimit
+  few-yet c = omega (arith, name-start (opened-before c) .pre, c .before .before .if4 .left)
+
+  -- the name has no bad ESC
+  is-whole : (c : name-whole) → taken-before c .take-text .result .whole ≡ true
+  is-whole c = not-false (taken-before c .take-text .result .whole) (c .if5 .left)
+
+  -- after it stands the end, or a byte that ends a text
+  marked : (c : name-whole) → endsText (drop (taken-before c .take-text .result .end) (name-start (opened-before (taken-before c)) .args .rest .now)) ≡ true
+  marked c = taken-before c .take-text .ensures .mark (is-whole c)
+
 name-returns : (t : ℕ) → name-lts.Need-returns (name-claims t) (name-at t) name.Post
 name-returns t c =
     let a = c .before .before .before .before .args in
@@ -77,11 +124,10 @@ name-returns-3 t c =
 
 name-returns-4 : (t : ℕ) → name-lts.Need-returns-4 (name-claims t) (name-at t) name.Post
 name-returns-4 t c =
-    let a = c .before .before .before .before .before .before .before .before .before .args in
-    let is = c .before .before .opens in
-    let kind = sym (is .ensures) ∙ not-false (is .result) (c .before .if3 .left) in
+    let e = c .before in
+    let a = name-start t e .args in
     name-fault _ tooManyVariables (a .at) (a .k) _ _
-    (from-kind (a .fault) (a .k) (a .rest .now) (omega arith) kind ∙ names-full (a .fault) (a .k) _ _ _ (omega arith))
+    (from-kind (a .fault) (a .k) (a .rest .now) (some-left t e) (opens-here t e) ∙ names-full (a .fault) (a .k) _ _ _ (omega arith))
 
 name-take-text-requires : (t : ℕ) → name-lts.Need-take-text-requires (name-claims t) (name-at t) name.Post
 name-take-text-requires t c κs = search needs
@@ -91,27 +137,26 @@ name-same-length t c = search needs
 
 name-returns-5 : (t : ℕ) → name-lts.Need-returns-5 (name-claims t) (name-at t) name.Post
 name-returns-5 t c =
-    let a = c .before .before .before .before .before .before .before .before .before .before .before .before .before .before .before .args in
-    let is = c .before .before .before .before .before .before .before .before .opens in
-    let kind = sym (is .ensures) ∙ not-false (is .result) (c .before .before .before .before .before .before .before .if3 .left) in
-    let took = c .before .before .before .before .take-text in
-    let bad = took .ensures .bad (not-true (took .result .whole) (c .if5 .taken)) in
+    let n = c .before .before .before .before in
+    let e = opened-before t n in
+    let a = name-start t e .args in
+    let bad = n .take-text .ensures .bad (not-true (n .take-text .result .whole) (c .if5 .taken)) in
     name-fault _ badEscape (a .at) (a .k) _ _
-    (from-kind (a .fault) (a .k) (a .rest .now) (omega arith) kind ∙ rw bad (names-broken (a .fault) (a .k) _ _ (omega arith)))
+    (from-kind (a .fault) (a .k) (a .rest .now) (some-left t e) (opens-here t e) ∙ rw bad (names-broken (a .fault) (a .k) _ _ (few-yet t n)))
 
 name-same-length-2 : (t : ℕ) → name-lts.Need-same-length-2 (name-claims t) (name-at t) name.Post
 name-same-length-2 t c = search needs
 
 name-returns-6 : (t : ℕ) → name-lts.Need-returns-6 (name-claims t) (name-at t) name.Post
 name-returns-6 t c =
-    let a = c .before .before .before .before .before .before .before .before .before .before .before .before .before .before .before .before .before .args in
-    let is = c .before .before .before .before .before .before .before .before .before .before .opens in
-    let kind = sym (is .ensures) ∙ not-false (is .result) (c .before .before .before .before .before .before .before .before .before .if3 .left) in
-    let took = c .before .before .before .before .before .before .take-text in
-    let good = took .ensures .good (not-false (took .result .whole) (c .before .before .if5 .left)) in
-    let none = empty (textOf (drop 1 (a .rest .now)) .bytes) (omega (arith, took .ensures .count)) in
+    let n = taken-before t (c .before .before) in
+    let e = opened-before t n in
+    let a = name-start t e .args in
+    let took = n .take-text .ensures in
+    let good = took .good (is-whole t (c .before .before)) in
+    let none = empty (textOf (drop 1 (a .rest .now)) .bytes) (omega (arith, took .count, c .if6 .taken)) in
     name-fault _ noVariable (a .at) (a .k) _ _
-    (from-kind (a .fault) (a .k) (a .rest .now) (omega arith) kind ∙ rw (good, none) (names-empty (a .fault) (a .k) _ _ (omega arith)))
+    (from-kind (a .fault) (a .k) (a .rest .now) (some-left t e) (opens-here t e) ∙ rw (good, none) (names-empty (a .fault) (a .k) _ _ (few-yet t n)))
 
 name-sub-value : (t : ℕ) → name-lts.Need-sub-value (name-claims t) (name-at t) name.Post
 name-sub-value t c = search needs
@@ -123,10 +168,7 @@ name-part-value-end : (t : ℕ) → name-lts.Need-part-value-end (name-claims t)
 name-part-value-end t c = search needs
 
 name-value-requires : (t : ℕ) → name-lts.Need-value-requires (name-claims t) (name-at t) name.Post
-name-value-requires t c κs =
-    let took = c .before .before .before .before .before .before .before .before .before .take-text in
-    let good = not-false (took .result .whole) (c .before .before .before .before .before .if5 .left) in
-    (search needs, (search needs, rw to-the-end (took .ensures .mark good)))
+name-value-requires t c κs = (search needs, (search needs, rw to-the-end (marked t (c .before .before .before .before .before))))
 
 name-same-length-3 : (t : ℕ) → name-lts.Need-same-length-3 (name-claims t) (name-at t) name.Post
 name-same-length-3 t c = search needs
@@ -136,15 +178,16 @@ name-same-length-4 t c = search needs
 
 name-returns-7 : (t : ℕ) → name-lts.Need-returns-7 (name-claims t) (name-at t) name.Post
 name-returns-7 t c =
-    let s = c .before .before .before .before .before .before .before .before .before .before .before .before .before .before .before .before .before .before .before .before .before .before .before .before .before in
+    let more = c .before .before .before .before in
+    let some = more .before .before .before .before in
+    let w = some .before .before in
+    let n = taken-before t w in
+    let e = opened-before t n in
+    let s = name-start t e in
     let a = s .args in
-    let is = c .before .before .before .before .before .before .before .before .before .before .before .before .before .before .before .before .before .before .opens in
-    let kind = sym (is .ensures) ∙ not-false (is .result) (c .before .before .before .before .before .before .before .before .before .before .before .before .before .before .before .before .before .if3 .left) in
-    let took = c .before .before .before .before .before .before .before .before .before .before .before .before .before .before .take-text in
-    let good = not-false (took .result .whole) (c .before .before .before .before .before .before .before .before .before .before .if5 .left) in
-    let more = c .before .before .before .before .value .ensures in
-    name-turn (a .fault) (a .at) (a .k) (a .rest .now) (a .bytes .now) _ (a .numbers .now) (took .result) _ _ _ (took .ensures) good
-    (omega arith) (omega arith) kind (omega (arith, s .pre, c .before .before .before .before .before .before .before .before .before .before .before .before .before .before .before .before .if4 .left)) (omega (arith, s .pre)) (rw to-the-end at more)
+    let took = n .take-text in
+    name-turn (a .fault) (a .at) (a .k) (a .rest .now) (a .bytes .now) _ (a .numbers .now) (took .result) _ _ _ (took .ensures) (is-whole t w)
+    (omega (arith, some .if6 .left)) (some-left t e) (opens-here t e) (few-yet t n) (s .pre .1 .texts) (rw to-the-end at (more .value .ensures))
 
 value-add-place : (t : ℕ) → value-lts.Need-add-place (value-claims t) (value-at t) value.Post
 value-add-place t c = search needs
@@ -157,8 +200,9 @@ value-same-length t c = search needs
 
 value-returns : (t : ℕ) → value-lts.Need-returns (value-claims t) (value-at t) value.Post
 value-returns t c =
-    let a = c .before .before .before .before .before .before .before .before .before .args in
-    let took = c .before .before .before .before .take-value in
+    let n = c .before .before .before .before in
+    let a = value-start t n .args in
+    let took = n .take-value in
     let bad = took .ensures .bad (not-true (took .result .whole) (c .if1 .taken)) (a .k) in
     value-fault _ badEscape (a .kind) (a .at) (a .n) (a .k) _ _ bad
 
@@ -191,14 +235,16 @@ value-same-length-3 t c = search needs
 
 value-returns-2 : (t : ℕ) → value-lts.Need-returns-2 (value-claims t) (value-at t) value.Post
 value-returns-2 t c =
-    let s = c .before .before .before .before .before .before .before .before .before .before .before .before .before .before .before .before .before .before .before .before .before .before in
+    let more = c .before .before .before .before in
+    let stored = more .before .before .before .before .before .before .before in
+    let w = stored .before .before in
+    let n = w .before .before .before .before in
+    let s = value-start t n in
     let a = s .args in
-    let took = c .before .before .before .before .before .before .before .before .before .before .before .before .before .before .before .before .before .take-value in
-    let good = not-false (took .result .whole) (c .before .before .before .before .before .before .before .before .before .before .before .before .before .if1 .left) in
-    let more = c .before .before .before .before .name .ensures in
-    let stored = c .before .before .before .before .before .before .before .before .before .before .before .store .ensures in
+    let took = n .take-value in
+    let good = not-false (took .result .whole) (w .if1 .left) in
     value-turn (a .kind) (a .at) (a .n) (a .k) (a .rest .now) (a .bytes .now) _ (a .numbers .now) (took .result) _ _ _ (took .ensures) good
-    (omega (arith, s .pre)) (omega (arith, s .pre)) (omega (arith, s .pre)) (rw (to-the-end, stored) at more)
+    (omega (arith, s .pre)) (omega (arith, s .pre)) (omega (arith, s .pre)) (rw (to-the-end, stored .store .ensures) at (more .name .ensures))
 
 pub +name+value-spec : {M : Type 1} → statement M
 +name+value-spec = close μ-name μ-value (λ t. name-lts.spec (name-claims t)

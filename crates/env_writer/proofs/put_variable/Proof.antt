@@ -54,27 +54,36 @@ add-put-marked c = search needs
 put-marked-requires : tie.Need-put-marked-requires
 put-marked-requires c κs = search needs
 
+-- the start, from where the name has been put
+abbrev start : tie.After-put-marked → tie.Start
+start c = c .before .before .before .before .before .before .before .before
+
+-- the buffer as the name leaves it
+abbrev left : tie.After-put-marked → List ℕ
+left c = c .put-marked .last .1 .1 .1 .1 .0
+
 -- the name stands after the kind
 named : (c : tie.After-put-marked)
-    → let s = c .before .before .before .before .before .before .before .before in
+    → let s = start c in
     (c .put-marked .result ≡ s .args .at + 1 + length (name s))
-    × (c .put-marked .last .1 .1 .1 .1 .0 ≡ overwrite (set (s .args .out .now) (s .args .at) (s .args .v .kind)) (s .args .at + 1) (name s))
+    × (left c ≡ overwrite (set (s .args .out .now) (s .args .at) (s .args .v .kind)) (s .args .at + 1) (name s))
 named c =
-    let s = c .before .before .before .before .before .before .before .before in
+    let s = start c in
     let bytes = s .args .bytes .now in
     let v = s .args .v in
     let opened = set (s .args .out .now) (s .args .at) (v .kind) in
     let fits : s .args .at + 1 + length (name s) ≤ length opened = simp length-set (omega (arith, room s)) in
     put-whole ESC 0 3 _ opened (s .args .at + 1) (name s) (lent-marked bytes (v .«name_at») (v .«name_length»)) fits (c .put-marked .ensures)
 
-kept : (c : tie.After-put-marked)
-    → length (c .put-marked .last .1 .1 .1 .1 .0) ≡ length (c .before .before .before .before .before .before .before .before .args .out .now)
+kept : (c : tie.After-put-marked) → length (left c) ≡ length (start c .args .out .now)
 kept c = c .put-marked .kept .1 .1 .1 .1 .0 ∙ simp length-set
 
+-- after the name there is room for VALUE and the value
+room-left : (c : tie.After-put-marked) → c .put-marked .result + 1 + length (value (start c)) ≤ length (start c .args .out .now)
+room-left c = omega (arith, room (start c), named c .0)
+
 slice-write-out-2 : tie.Need-slice-write-out-2
-slice-write-out-2 c =
-    let n = c .before .before in
-    omega (arith, room (n .before .before .before .before .before .before .before .before), named n .0, kept n)
+slice-write-out-2 c = omega (arith, room-left (c .before .before), kept (c .before .before))
 
 sub-put-marked-2 : tie.Need-sub-put-marked-2
 sub-put-marked-2 c = search needs
@@ -83,12 +92,10 @@ part-put-marked-start-2 : tie.Need-part-put-marked-start-2
 part-put-marked-start-2 c = search needs
 
 part-put-marked-end-2 : tie.Need-part-put-marked-end-2
-part-put-marked-end-2 c = good (c .before .before .before .before .before .before .before .before .before .before) .value
+part-put-marked-end-2 c = good (start (c .before .before)) .value
 
 add-put-marked-2 : tie.Need-add-put-marked-2
-add-put-marked-2 c =
-    let n = c .before .before .before .before in
-    omega (arith, room (n .before .before .before .before .before .before .before .before), named n .0)
+add-put-marked-2 c = omega (arith, room-left (c .before .before .before .before))
 
 put-marked-requires-2 : tie.Need-put-marked-requires-2
 put-marked-requires-2 c κs = search needs
@@ -102,16 +109,16 @@ returns : tie.Need-returns
 unfolding writtenVariable
 returns c =
     let n = c .before .before .before .before .before .before .before in
-    let s = n .before .before .before .before .before .before .before .before in
+    let s = start n in
     let v = s .args .v in
     let k = n .put-marked .result in
-    let before = set (n .put-marked .last .1 .1 .1 .1 .0) k VALUE in
-    let fits : k + 1 + length (value s) ≤ length before = simp length-set (omega (arith, room s, named n .0, kept n)) in
+    let before = set (left n) k VALUE in
+    let fits : k + 1 + length (value s) ≤ length before = simp length-set (omega (arith, room-left n, kept n)) in
     let same = lent-marked (s .args .bytes .now) (v .«value_at») (v .«value_length») in
     let last = put-whole ESC 0 3 _ before (k + 1) (value s) same fits (c .before .before .put-marked2 .ensures) in record {
       place = omega (arith, last .0, named n .0, length-written (s .args .bytes .now) v);
       lent = last .1 ∙ ap (λ l. overwrite (set l k VALUE) (k + 1) (value s)) (named n .1)
-          ∙ stored-variable (s .args .out .now) (s .args .at) k (v .kind) (name s) (value s) (named n .0) (omega (arith, room s, named n .0));
+          ∙ stored-variable (s .args .out .now) (s .args .at) k (v .kind) (name s) (value s) (named n .0) (room-left n);
     }
 
 pub put-variable-spec : {M : Type 1} → statement M
