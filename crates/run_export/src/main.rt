@@ -2,11 +2,10 @@
 // line: a title, a colon, and in hexadecimal digits a byte that says which call, and its arguments. A line of output
 // has the title and the numbers of the answer in the order of its struct, and what was written. `stdin` and `stdout`
 // were made by a Python script from the constants of include/tongvelvet.h and the specification's table of the option
-// rules and its frames: every number of every enum, both ways, and numbers that name nothing. Those of the verdicts are
-// in `run_export_signon`, which loads more.
+// rules: every number of every enum, both ways, and numbers that name nothing. Those of frames and the ledger are in
+// `run_export_print`, those of the verdicts in `run_export_signon`.
 use export_option::TvPair;
 use export_option::TvSides;
-use export_print::TvLedger;
 
 fn say(text: &[u8]) {
     io::write_all(1, text);
@@ -74,33 +73,6 @@ fn receive(state: u8, code: u8, option: u8, accept: u8) {
     say_numbers(&[a.number, a.writes, a.code, a.option]);
 }
 
-fn take(ledger: u8, frame: &[u8]) {
-    let t = export_print::tv_ledger_take(TvLedger { held: ledger }, frame);
-    say_numbers(&[t.ledger.held, t.refusal, t.receipt]);
-}
-
-fn complete_into(ledger: u8, out: &mut [u8]) {
-    let c = export_print::tv_ledger_complete(TvLedger { held: ledger }, out);
-    say_numbers(&[c.ledger.held, c.refusal]);
-    say_number(c.length as u64);
-    say_numbers(out);
-}
-
-// With room for ten bytes, or for nine.
-fn complete(ledger: u8, room: u8) {
-    let mut out = [0u8; 10];
-    if room == 10 {
-        complete_into(ledger, &mut out);
-        return;
-    }
-    complete_into(ledger, &mut out[0..9]);
-}
-
-fn frame(bytes: &[u8]) {
-    let f = export_print::tv_read_frame(bytes);
-    say_numbers(&[f.refusal, f.direction, f.operation]);
-}
-
 fn look(bytes: &[u8]) {
     let e = export_telnet::tv_look(bytes, 0);
     say_numbers(&[e.what, e.refusal, e.code, e.option]);
@@ -129,9 +101,6 @@ fn run_case(case: &[u8]) {
         0 => say_sides(export_option::tv_sides_fresh()),
         1 => request(at(case, 1), at(case, 2), at(case, 3), at(case, 4)),
         2 => receive(at(case, 1), at(case, 2), at(case, 3), at(case, 4)),
-        3 => take(at(case, 1), rest(case, 2)),
-        4 => complete(at(case, 1), at(case, 2)),
-        5 => frame(rest(case, 1)),
         6 => look(rest(case, 1)),
         7 => write(at(case, 1), at(case, 2), at(case, 3), rest(case, 4)),
         _ => {}
