@@ -449,7 +449,8 @@ typedef struct tv_value {
  * Reads a payload. Names and values go back to back to the front of bytes,
  * without their ESCs, and the variable records to the front of numbers. A
  * variable with no VALUE has an empty value. Room that always suffices: 1,024
- * bytes, and 320 numbers. numbers_length counts numbers, not bytes.
+ * bytes, and TV_ENV_NUMBERS * TV_ENV_VARIABLES numbers. numbers_length counts
+ * numbers, not bytes.
  * Refused by 3; 20; 21 to 24 by the first fault from the left; 25; 4.
  */
 #define TV_STACK_ENV_READ 20480
