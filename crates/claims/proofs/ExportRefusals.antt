@@ -91,7 +91,7 @@ use Rattle.claims.specs.Refusals.{ofReceipt, ofCompletion, ofBlock, ofCh
 use Rattle.claims.specs.Refusals.{ofResponse}
 use Rattle.claims.specs.Demand1.{RefusesBy, RefusesInto, RefusesOnLine}
 use Rattle.claims.specs.Demand1C.{Writes, Steps, StepsOnLine, Demand1C}
-use Rattle.claims.proofs.OneOf.{of-none, more, behind, wider, mapped, numbers-of}
+use Rattle.claims.proofs.OneOf.{of-none, more, after, wider, mapped, numbers-of}
 use Rattle.claims.proofs.LineRefusals.{looks, reads, reads-records, writes, lists}
 use Rattle.claims.proofs.SessionRefusals.{session-receives, session-requests, line-receives, line-requests}
 use Rattle.claims.proofs.SessionRefusals.{line-hears}
@@ -253,7 +253,7 @@ receives-on-named s (IsVerb v) option accept l at =
     let o = receivedOn x v option accept l at in
     let a = o .answer in
     steps-on-line (5 ∷ 4 ∷ 6 ∷ []) s x l at o
-    (wider _ _ (behind (5 ∷ 4 ∷ []) (6 ∷ [])) {L = Sides × (List ℕ × ℕ)} (x, (l, at)) (a .sides, (o .lent, a .place))
+    (wider _ _ (after (5 ∷ 4 ∷ []) (6 ∷ [])) {L = Sides × (List ℕ × ℕ)} (x, (l, at)) (a .sides, (o .lent, a .place))
     (byReceipt (a .number)) (line-receives x v option accept l at))
 
 -- a hash value that is written
@@ -272,7 +272,7 @@ unfolding oneOf
 sha-tokens-written name password out =
     let h = shaToken name password in
     hash-written _ h out tt
-    (wider _ _ (behind (33 ∷ 34 ∷ []) (4 ∷ [])) {L = Unit {0}} tt tt (byNumber (h .refusal)) (sha-tokens name password))
+    (wider _ _ (after (33 ∷ 34 ∷ []) (4 ∷ [])) {L = Unit {0}} tt tt (byNumber (h .refusal)) (sha-tokens name password))
 
 sha-substitutes-written : (token name : List ℕ) (server client : ℕ) (out : List ℕ)
     → Writes (31 ∷ 33 ∷ 4 ∷ []) out (substituteInto token name server client out)
@@ -281,7 +281,7 @@ sha-substitutes-written token name server client out =
     let h = shaSubstitute token name server client in
     choice (Writes (31 ∷ 33 ∷ 4 ∷ []) out) (eqb (length token) shaLength) {y = outcome (notWritten badProfile) out}
     (λ _. hash-written _ h out tt
-    (wider _ _ (λ n t. more 31 (33 ∷ 4 ∷ []) n (behind (33 ∷ []) (4 ∷ []) n t)) {L = Unit {0}} tt tt
+    (wider _ _ (λ n t. more 31 (33 ∷ 4 ∷ []) n (after (33 ∷ []) (4 ∷ []) n t)) {L = Unit {0}} tt tt
     (byNumber (h .refusal)) (sha-substitutes token name server client)))
     (λ _. (tt, refl))
 

@@ -109,19 +109,19 @@ module _ (name password : List ℕ) (des : Bool) where
       let ascending = tables-written-back table (s .ps) (s .areBytes) (s .accepted) .1 .0 in
       let o = s .occurs in
       same-record (s .profile) profile
-      (formed-among [] (o .before) (s .profile) (o .behind) (subst (Ascending version1 []) (o .there) ascending))
+      (formed-among [] (o .before) (s .profile) (o .after) (subst (Ascending version1 []) (o .there) ascending))
       (g .formed) (s .isWritten ∙ made .bytes ∙ g .bytes)
 
   module _ (server client : ℕ) (offered : List ℕ) where
     by-sha : isName profileLimit name ≡ true → Sha.isPassword password ≡ true
         → BySha name password server client offered
-        → offered ≡ Sha.PW-SUB (Profiles.shaToken profile) (bytes 8 server) (bytes 8 client) name
+        → offered ≡ Sha.PW-SUB (Profiles.storedSha profile) (bytes 8 server) (bytes 8 client) name
     unfolding ShaAnswer.shaToken ShaAnswer.shaSubstitute
     by-sha named passed b = b .substitute ∙ rw (named, passed)
 
     by-des : server < 2 ^ 64 → client < 2 ^ 64 → ByDes name password des server client offered
         → T (desAllowed profile)
-        × (offered ≡ desSubstituteOf (Profiles.desToken profile) name (bytes 8 server) (bytes 8 client))
+        × (offered ≡ desSubstituteOf (Profiles.storedDes profile) name (bytes 8 server) (bytes 8 client))
     unfolding desTokenBytes
     by-des s k b =
         let t = token-is name password (b .token) (b .hasToken) in

@@ -25,10 +25,10 @@ unfolding oneOf
 more m ms n t = or-right (eqb n m) (oneOf ms n) t
 
 -- and among those of two lists
-pub behind : (ms ks : List ℕ) (n : ℕ) → T (oneOf ms n) → T (oneOf (ms ++ ks) n)
+pub after : (ms ks : List ℕ) (n : ℕ) → T (oneOf ms n) → T (oneOf (ms ++ ks) n)
 unfolding oneOf
-behind [] ks n t = absurd t
-behind (m ∷ ms) ks n t = or-map (eqb n m) (oneOf ms n) (oneOf (ms ++ ks) n) (behind ms ks n) t
+after [] ks n t = absurd t
+after (m ∷ ms) ks n t = or-map (eqb n m) (oneOf ms n) (oneOf (ms ++ ks) n) (after ms ks n) t
 
 -- A refusal by some numbers is one by more.
 pub wider : (ms ks : List ℕ) → ((n : ℕ) → T (oneOf ms n) → T (oneOf ks n)) → {L : Type 0} (found left : L) (r : Refusal)

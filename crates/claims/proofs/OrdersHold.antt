@@ -11,7 +11,7 @@ use Rattle.telnet.specs.Event.{payloadLimit}
 use Rattle.telnet.proofs.Faults.{first-fault-decides as first-line-fault-decides}
 use Rattle.env.specs.Variable.{variableLimit, isFirst, repeated}
 use Rattle.env.specs.Write.{objection, payloadOf, nameless}
-use Rattle.env.specs.Numbers.{held, placed}
+use Rattle.env.specs.Numbers.{variablesHeld, placed}
 use Rattle.env.proofs.Faults.{first-fault-decides as first-variable-fault-decides, repeat-gives-way, too-long-first}
 use Rattle.env_writer.specs.Promise.{put, writeInto}
 use Rattle.profile.proofs.Decides.{first-record-decides}
@@ -28,7 +28,7 @@ use Rattle.claims.proofs.RoomOrders.{four-last}
 writer-order : (first : ℕ) (bytes numbers out : List ℕ) → WriterOrder first bytes numbers out
 unfolding writeInto put objection isFirst
 writer-order first bytes numbers out =
-    let vs = held bytes numbers in
+    let vs = variablesHeld bytes numbers in
     let begins = is-true (isFirst first) in
     let records = is-true (placed bytes numbers) in
     let few = le-ltb variableLimit (length vs) in

@@ -13,9 +13,9 @@ use Rattle.env.specs.Variable.{Variable, variable, variableLimit, isFirst, repe
 use Rattle.env.specs.Fields.{Text, text, broken, Field, nameField, valueField, rowOf}
 use Rattle.env.specs.Read.{Found, variables, fault, addVariable, limited, whole, named, names, expectNoText, variablesOf, Reading, says, notRead, distinct, begun, readingOf}
 use Rattle.env.specs.Write.{Objection, none, against, objection, payloadOf, nameless}
-use Rattle.env.specs.Numbers.{packed, recorded, held, placed}
+use Rattle.env.specs.Numbers.{packed, recorded, variablesHeld, placed}
 use Rattle.env_delivery.specs.declared.Answer.{Answer}
-use Rattle.env_delivery.specs.Promise.{Delivery, delivered, readInto, readBehind, handOver, deliverRead}
+use Rattle.env_delivery.specs.Promise.{Delivery, delivered, readInto, readAfter, handOver, deliverRead}
 use Rattle.env_list.specs.Reading.{listed, readRecords}
 use Rattle.env_list.specs.Lists.{Listing}
 use Rattle.env_writer.specs.Promise.{put, writeInto}
@@ -104,8 +104,8 @@ reads-payloads p bytes numbers = delivered-by (readingOf p) bytes numbers (readi
 
 -- what it is made of
 pub reads-variables : (first : ℕ) (rest bytes numbers : List ℕ)
-    → RefusesBoth (4 ∷ payload) bytes numbers (readBehind first rest bytes numbers)
-unfolding readBehind oneOf
+    → RefusesBoth (4 ∷ payload) bytes numbers (readAfter first rest bytes numbers)
+unfolding readAfter oneOf
 reads-variables first rest bytes numbers =
     choice (RefusesBoth (4 ∷ payload) bytes numbers) (ltb payloadLimit (length (first ∷ rest))) (λ _. (tt, refl))
     (λ _. delivered-by _ bytes numbers (rest-by first rest))
@@ -125,7 +125,7 @@ module _ (first : ℕ) (texts records bytes numbers : List ℕ) where
   pub delivers : RefusesBoth (25 ∷ 4 ∷ []) bytes numbers (deliverRead first texts records bytes numbers)
   unfolding deliverRead oneOf
   delivers =
-      choice (RefusesBoth (25 ∷ 4 ∷ []) bytes numbers) (repeated (held texts records)) (λ _. (tt, refl))
+      choice (RefusesBoth (25 ∷ 4 ∷ []) bytes numbers) (repeated (variablesHeld texts records)) (λ _. (tt, refl))
       (λ _. handed-by (25 ∷ 4 ∷ []) tt)
 
 -- the reader into a list of records
@@ -166,7 +166,7 @@ put-by (against n) p out t = (t, refl)
 pub writes-payloads : (first : ℕ) (bytes list out : List ℕ) → RefusesInto numbers ofPayloadWritten out (writeInto first bytes list out)
 unfolding writeInto oneOf
 writes-payloads first bytes list out =
-    let vs = held bytes list in
+    let vs = variablesHeld bytes list in
     choice (RefusesInto numbers ofPayloadWritten out) (isFirst first)
     (λ _. choice (RefusesInto numbers ofPayloadWritten out) (placed bytes list)
     (λ _. put-by (objection first vs) (payloadOf first vs) out (objection-by first vs)) (λ _. (tt, refl)))

@@ -36,7 +36,7 @@ use Rattle.env.specs.declared.VariableRecord.{VariableRecord}
 use Rattle.env.specs.Variable.{Variable, variableLimit, isFirst, repeated}
 use Rattle.env.specs.Read.{Reading, says, notRead, readingOf}
 use Rattle.env.specs.Write.{Objection, objection, payloadOf, nameless}
-use Rattle.env.specs.Numbers.{packed, recorded, held, placed}
+use Rattle.env.specs.Numbers.{packed, recorded, variablesHeld, placed}
 use Rattle.env_delivery.specs.declared.Answer.{Answer as PayloadAnswer}
 use Rattle.env_delivery.specs.Promise.{Delivery, delivered}
 use Rattle.env_list.specs.Lists.{Listing}
@@ -222,7 +222,7 @@ writes-payloads : (first : ℕ) (bytes numbers : List ℕ)
 unfolding writeInto
 writes-payloads first bytes numbers =
     walked (told ofPayloadWritten) (isFirst first)
-    (walked (told ofPayloadWritten) (placed bytes numbers) (puts first (held bytes numbers))
+    (walked (told ofPayloadWritten) (placed bytes numbers) (puts first (variablesHeld bytes numbers))
     (fixed (refusedBy 27) (omega arith) (λ _. refl)))
     (fixed (refusedBy 20) (omega arith) (λ _. refl))
 

@@ -45,7 +45,7 @@ use Rattle.print_ledger.specs.declared.Completed.{Completed}
 use Rattle.print_ledger.specs.Ledger.{afterFrame, printed, cleared, taken, answered, takeFrame, printComplete, completeInto}
 use Rattle.claims.specs.Refusals.{Refusal, refusedBy, oneOf, Refuses, byNumber, ofBlock, ofCheck, ofFound, ofMade, ofSignon, ofResponse, ofFrame, ofReceipt, ofCompletion}
 use Rattle.claims.specs.Demand1.{payload, frame, table, RefusesBy, RefusesInto}
-use Rattle.claims.proofs.OneOf.{more, behind}
+use Rattle.claims.proofs.OneOf.{more, after}
 use Rattle.claims.proofs.PayloadRefusals.{ReadingBy, reading-by}
 
 -- what a table says
@@ -141,7 +141,7 @@ sha-substitutes token name server client =
 -- a verdict, by the table and the payload
 answered-by : (seed : List ℕ) (t : TableReading) (r : Reading) → TableBy t → ReadingBy r → RefusesBy (35 ∷ table ++ payload) (ofSignon (answerBy seed t r))
 unfolding answerBy
-answered-by seed (tableRefused n) r t q = (more 35 (table ++ payload) n (behind table payload n t), refl)
+answered-by seed (tableRefused n) r t q = (more 35 (table ++ payload) n (after table payload n t), refl)
 answered-by seed (profiles ps) (notRead n) t q = (more 35 (table ++ payload) n (more 30 _ n (more 31 _ n (more 32 payload n q))), refl)
 answered-by seed (profiles ps) (says first vs) t q = tt
 

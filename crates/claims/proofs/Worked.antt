@@ -21,7 +21,7 @@ use Rattle.env.proofs.Limits.{reading-long}
 use Rattle.env.proofs.ReadingBack.{reads-back}
 use Rattle.telnet.specs.Event.{lead, payloadLimit}
 use Rattle.telnet.specs.Write.{doubled}
-use Rattle.telnet.specs.Read.{undoubled, closed, afterSb, afterLead, afterIac, runOr, eventOf}
+use Rattle.telnet.specs.Read.{dataRun, closed, afterSb, afterLead, afterIac, runOr, eventOf}
 use Rattle.option_rules.specs.declared.Side.{Side}
 use Rattle.option_rules.specs.Table.{Row, table}
 use Rattle.option_rules.proofs.Chosen.{rules-carried}
@@ -80,7 +80,7 @@ unfolding tableOf
 other-version = refl
 
 pub all-hold : AllHold lines
-unfolding raisedByte filled ebcdic folded userID escaped eventOf runOr afterIac afterLead lead afterSb closed undoubled doubled goes isFlow directionOf isReserved isOperation operationOf headerOf frameOf
+unfolding raisedByte filled ebcdic folded userID escaped eventOf runOr afterIac afterLead lead afterSb closed dataRun doubled goes isFlow directionOf isReserved isOperation operationOf headerOf frameOf
 all-hold = (
   refl,
   (

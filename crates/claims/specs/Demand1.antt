@@ -29,7 +29,7 @@ use Rattle.option_line.specs.declared.Sent.{Sent}
 use Rattle.option_line.specs.Line.{receivedOn, requestedOn, heardOn}
 use Rattle.telnet.specs.declared.Verb.{Verb}
 use Rattle.env.specs.declared.VariableRecord.{VariableRecord}
-use Rattle.env_delivery.specs.Promise.{Delivery, readInto, readBehind, deliverRead, handOver}
+use Rattle.env_delivery.specs.Promise.{Delivery, readInto, readAfter, deliverRead, handOver}
 use Rattle.env_list.specs.Reading.{readRecords}
 use Rattle.env_writer.specs.Promise.{writeInto}
 use Rattle.print_frame.specs.Frame.{frameOf}
@@ -107,7 +107,7 @@ pub record Demand1 : Type 0 where
       → Refuses (4 ∷ payload) {L = List ℕ × List VariableRecord} (bytes, list) (readRecords p bytes list .answer .lent, readRecords p bytes list .records) (ofPayload (readRecords p bytes list .answer .answer))
   pub writePayload : (first : ℕ) (bytes numbers out : List ℕ)
       → RefusesInto (20 ∷ 27 ∷ 21 ∷ 24 ∷ 25 ∷ 3 ∷ 4 ∷ []) ofPayloadWritten out (writeInto first bytes numbers out)
-  pub readVariables : (first : ℕ) (rest bytes numbers : List ℕ) → RefusesBoth (4 ∷ payload) bytes numbers (readBehind first rest bytes numbers)
+  pub readVariables : (first : ℕ) (rest bytes numbers : List ℕ) → RefusesBoth (4 ∷ payload) bytes numbers (readAfter first rest bytes numbers)
   pub deliver : (first : ℕ) (texts records bytes numbers : List ℕ) → RefusesBoth (25 ∷ 4 ∷ []) bytes numbers (deliverRead first texts records bytes numbers)
   pub handOver : (first : ℕ) (texts records bytes numbers : List ℕ) → RefusesBoth (4 ∷ []) bytes numbers (handOver first texts records bytes numbers)
   -- profile tables: `check`, `find`, `make_record`

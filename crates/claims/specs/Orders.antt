@@ -26,7 +26,7 @@ use Rattle.env.specs.declared.VariableRecord.{VariableRecord}
 use Rattle.env.specs.Variable.{isFirst, repeated}
 use Rattle.env.specs.Read as Read
 use Rattle.env.specs.Write.{payloadOf, nameless}
-use Rattle.env.specs.Numbers.{held, placed}
+use Rattle.env.specs.Numbers.{variablesHeld, placed}
 use Rattle.env.specs.Theorems as Env
 use Rattle.env_delivery.specs.Promise.{readInto}
 use Rattle.env_list.specs.Reading.{readRecords}
@@ -106,13 +106,13 @@ WriteRefuses first bytes numbers out number = writeInto first bytes numbers out 
 pub record WriterOrder (first : ℕ) (bytes numbers out : List ℕ) : Type 0 where
   pub twenty : (first ≡ 0 → ⊥) → (first ≡ 2 → ⊥) → WriteRefuses first bytes numbers out 20
   pub badRecord : T (isFirst first) → placed bytes numbers ≡ false → WriteRefuses first bytes numbers out 27
-  pub noName : T (isFirst first) → T (placed bytes numbers) → T (nameless (held bytes numbers)) → WriteRefuses first bytes numbers out 21
-  pub tooMany : T (isFirst first) → T (placed bytes numbers) → nameless (held bytes numbers) ≡ false → 64 < length (held bytes numbers)
+  pub noName : T (isFirst first) → T (placed bytes numbers) → T (nameless (variablesHeld bytes numbers)) → WriteRefuses first bytes numbers out 21
+  pub tooMany : T (isFirst first) → T (placed bytes numbers) → nameless (variablesHeld bytes numbers) ≡ false → 64 < length (variablesHeld bytes numbers)
       → WriteRefuses first bytes numbers out 24
-  pub twice : T (isFirst first) → T (placed bytes numbers) → nameless (held bytes numbers) ≡ false → length (held bytes numbers) ≤ 64
-      → T (repeated (held bytes numbers)) → WriteRefuses first bytes numbers out 25
-  pub tooLong : T (isFirst first) → T (placed bytes numbers) → nameless (held bytes numbers) ≡ false → length (held bytes numbers) ≤ 64
-      → repeated (held bytes numbers) ≡ false → 1024 < length (payloadOf first (held bytes numbers)) → WriteRefuses first bytes numbers out 3
+  pub twice : T (isFirst first) → T (placed bytes numbers) → nameless (variablesHeld bytes numbers) ≡ false → length (variablesHeld bytes numbers) ≤ 64
+      → T (repeated (variablesHeld bytes numbers)) → WriteRefuses first bytes numbers out 25
+  pub tooLong : T (isFirst first) → T (placed bytes numbers) → nameless (variablesHeld bytes numbers) ≡ false → length (variablesHeld bytes numbers) ≤ 64
+      → repeated (variablesHeld bytes numbers) ≡ false → 1024 < length (payloadOf first (variablesHeld bytes numbers)) → WriteRefuses first bytes numbers out 3
 
 -- "Frames: 40 to 45 ascending, then 52, then 50": whatever the ledger holds.
 pub record LedgerOrder : Type 0 where

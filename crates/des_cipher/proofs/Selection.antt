@@ -9,7 +9,7 @@ use lib.ListN.{getD}
 use lib.Pow.{field, mod-mod-pow}
 use Rattle.des.specs.Blocks.{continued, permuted}
 use Rattle.des.specs.Cipher.{S, selected}
-use Rattle.des_cipher.specs.near.Boxes.{listed, boxArray}
+use Rattle.des_cipher.specs.internal.Boxes.{listed, boxArray}
 use Rattle.des.specs.Tables.{Box}
 use Rattle.des.proofs.Each.{each, at}
 

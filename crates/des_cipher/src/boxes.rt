@@ -1,6 +1,6 @@
 // The S boxes.
 ghost use mathlib.Core.Path.{_≡_};
-ghost use Rattle.des_cipher.specs.near.Boxes.{boxArray};
+ghost use Rattle.des_cipher.specs.internal.Boxes.{boxArray};
 
 const BOXES: [u8; 512] = [
     14,

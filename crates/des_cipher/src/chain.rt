@@ -5,7 +5,7 @@ use des_schedule::key_schedule;
 ghost use mathlib.Core.Path.{_≡_};
 ghost use lib.ListN.{length};
 ghost use Rattle.des.specs.Cipher.{chained};
-ghost use Rattle.des_cipher.specs.near.Boxes.{boxArray};
+ghost use Rattle.des_cipher.specs.internal.Boxes.{boxArray};
 ghost use Rattle.des.specs.Schedule.{roundKeys};
 
 // The last block of a chain from eight zeros under round keys.

@@ -11,7 +11,7 @@ ghost use lib.ListN.{length, getD};
 ghost use Rattle.des.specs.Blocks.{permuted};
 ghost use Rattle.des.specs.Cipher.{S, selected, f, output, enciphered};
 ghost use Rattle.des.specs.Tables.{P};
-ghost use Rattle.des_cipher.specs.near.Boxes.{Widened, boxArray};
+ghost use Rattle.des_cipher.specs.internal.Boxes.{Widened, boxArray};
 
 // The last bit of R, its 32 bits and its first bit, which hold the groups of E(R).
 fn widen(r: u64) -> u64

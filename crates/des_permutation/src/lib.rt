@@ -8,7 +8,7 @@ ghost use Prim.Native.Nat.{_≤_};
 ghost use lib.Dec.{T};
 ghost use lib.ListN.{length};
 ghost use Rattle.des.specs.Blocks.{permuted};
-ghost use Rattle.des_permutation.specs.near.Within.{placesWithin};
+ghost use Rattle.des_permutation.specs.internal.Within.{placesWithin};
 ghost use Rattle.des.specs.Tables.{IP, IP⁻¹, PC-1};
 
 mod tables;

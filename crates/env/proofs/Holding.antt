@@ -12,7 +12,7 @@ use Rattle.octets.specs.Lent.{overwrite}
 use Rattle.octets.proofs.Overwrite.{take-overwrite, length-overwrite}
 use Rattle.env.specs.Variable.{Variable, isKind}
 use Rattle.env.specs.Write.{kindsGood}
-use Rattle.env.specs.Numbers.{recordWidth, recordsOf, variableOf, packed, recorded, held, fits, allPlaced, placed}
+use Rattle.env.specs.Numbers.{recordWidth, recordsOf, variableOf, packed, recorded, variablesHeld, fits, allPlaced, placed}
 use Rattle.octets.specs.Part.{part}
 use Rattle.env.specs.Theorems.{HoldsAgain}
 use Rattle.env.proofs.Records.{records-short, records-cons, records-before}
@@ -41,8 +41,8 @@ part-apart bytes at a b h =
 
 -- where variables are packed, their records hold them
 pub held-recorded : (bytes : List ℕ) (at : ℕ) (vs : List Variable) → part bytes at (length (packed vs)) ≡ packed vs
-    → held bytes (recorded at vs) ≡ vs
-unfolding packed recorded held
+    → variablesHeld bytes (recorded at vs) ≡ vs
+unfolding packed recorded variablesHeld
 held-recorded bytes at [] h = ap (map (variableOf bytes)) (records-short [] (omega arith))
 held-recorded bytes at (v ∷ vs) h =
     let name = part-apart bytes at (v .name) (v .value ++ packed vs) h in

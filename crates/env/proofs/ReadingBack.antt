@@ -36,7 +36,7 @@ row-written k [] s = row-nil
 row-written k (v ∷ vs) s =
     let f = first-sound k v vs s in
     let rest = escaped (v .value) ++ writtenVariables vs in
-    let value = row-text (v .value) (writtenVariables vs) (fieldsOf vs) (row-written (suc k) vs (f .behind)) in
+    let value = row-text (v .value) (writtenVariables vs) (fieldsOf vs) (row-written (suc k) vs (f .after)) in
     let name = row-text (v .name) (VALUE ∷ rest) (valueField (text (v .value)) ∷ fieldsOf vs) (row-value rest ∙ ap startsValue value) in
     rw append-assoc (row-kind (v .kind) (escaped (v .name) ++ VALUE ∷ rest) (f .kind) ∙ ap (startsName (v .kind)) name)
 
@@ -51,7 +51,7 @@ names-written number k [] s = refl
 names-written number k (v ∷ vs) s =
     let f = first-sound k v vs s in
     let fits = s .few in
-    rw (limited-room k _ (omega arith), named-full _ (v .name) (f .full), names-written _ (suc k) vs (f .behind))
+    rw (limited-room k _ (omega arith), named-full _ (v .name) (f .full), names-written _ (suc k) vs (f .after))
 
 -- what is read without refusal, and a length within the limit, is what the writer accepts
 accepted : (first : ℕ) (vs : List Variable) → Says first vs → length (payloadOf first vs) ≤ payloadLimit → Accepted first vs

@@ -24,12 +24,12 @@ is-both kind name v = (
   λ e. rw (e .0, e .1) (yes-and (eqb (v .kind) (v .kind)) (same (v .name) (v .name)) (eqb-refl (v .kind)) (same-refl (v .name))),
 )
 
-among-here : (kind : ℕ) (name : List ℕ) (before : List Variable) (v : Variable) (behind : List Variable)
-    → kind ≡ v .kind → name ≡ v .name → T (among kind name (before ++ v ∷ behind))
+among-here : (kind : ℕ) (name : List ℕ) (before : List Variable) (v : Variable) (after : List Variable)
+    → kind ≡ v .kind → name ≡ v .name → T (among kind name (before ++ v ∷ after))
 unfolding among
-among-here kind name [] v behind k n = yes-or (is kind name v) (among kind name behind) (inl (is-both kind name v .1 (k, n)))
-among-here kind name (u ∷ us) v behind k n =
-    yes-or (is kind name u) (among kind name (us ++ v ∷ behind)) (inr (among-here kind name us v behind k n))
+among-here kind name [] v after k n = yes-or (is kind name v) (among kind name after) (inl (is-both kind name v .1 (k, n)))
+among-here kind name (u ∷ us) v after k n =
+    yes-or (is kind name u) (among kind name (us ++ v ∷ after)) (inr (among-here kind name us v after k n))
 
 pub among-occurs : (kind : ℕ) (name : List ℕ) (vs : List Variable) → T (among kind name vs) → Occurs kind name vs
 unfolding among
@@ -38,13 +38,13 @@ among-occurs kind name (v ∷ vs) t =
     ⊎-elim (λ i. here (is-both kind name v .0 i)) (λ i. later (among-occurs kind name vs i)) (or-yes (is kind name v) (among kind name vs) t)
   where
     here : (kind ≡ v .kind) × (name ≡ v .name) → Occurs kind name (v ∷ vs)
-    here e = record { before = []; it = v; behind = vs; there = refl; same-kind = e .0; same-name = e .1 }
+    here e = record { before = []; it = v; after = vs; there = refl; same-kind = e .0; same-name = e .1 }
 
     later : Occurs kind name vs → Occurs kind name (v ∷ vs)
     later o = record {
       before = v ∷ o .before;
       it = o .it;
-      behind = o .behind;
+      after = o .after;
       there = rw (o .there);
       same-kind = o .same-kind;
       same-name = o .same-name;
@@ -52,24 +52,24 @@ among-occurs kind name (v ∷ vs) t =
 
 pub among-is-occurs : AmongIsOccurs
 among-is-occurs kind name vs =
-    (among-occurs kind name vs, λ o. rw (o .there) (among-here kind name (o .before) (o .it) (o .behind) (o .same-kind) (o .same-name)))
+    (among-occurs kind name vs, λ o. rw (o .there) (among-here kind name (o .before) (o .it) (o .after) (o .same-kind) (o .same-name)))
 
-repeated-here : (before : List Variable) (v : Variable) (behind : List Variable)
-    → Occurs (v .kind) (v .name) behind → T (repeated (before ++ v ∷ behind))
+repeated-here : (before : List Variable) (v : Variable) (after : List Variable)
+    → Occurs (v .kind) (v .name) after → T (repeated (before ++ v ∷ after))
 unfolding repeated
-repeated-here [] v behind o = yes-or (among (v .kind) (v .name) behind) (repeated behind) (inl (among-is-occurs (v .kind) (v .name) behind .1 o))
-repeated-here (u ∷ us) v behind o =
-    yes-or (among (u .kind) (u .name) (us ++ v ∷ behind)) (repeated (us ++ v ∷ behind)) (inr (repeated-here us v behind o))
+repeated-here [] v after o = yes-or (among (v .kind) (v .name) after) (repeated after) (inl (among-is-occurs (v .kind) (v .name) after .1 o))
+repeated-here (u ∷ us) v after o =
+    yes-or (among (u .kind) (u .name) (us ++ v ∷ after)) (repeated (us ++ v ∷ after)) (inr (repeated-here us v after o))
 
 repeated-twice : (vs : List Variable) → T (repeated vs) → Twice vs
 unfolding repeated
 repeated-twice [] t = absurd t
 repeated-twice (v ∷ vs) t =
-    ⊎-elim (λ i. record { before = []; it = v; behind = vs; there = refl; again = among-occurs (v .kind) (v .name) vs i })
+    ⊎-elim (λ i. record { before = []; it = v; after = vs; there = refl; again = among-occurs (v .kind) (v .name) vs i })
     (λ i. later (repeated-twice vs i)) (or-yes (among (v .kind) (v .name) vs) (repeated vs) t)
   where
     later : Twice vs → Twice (v ∷ vs)
-    later t = record { before = v ∷ t .before; it = t .it; behind = t .behind; there = rw (t .there); again = t .again }
+    later t = record { before = v ∷ t .before; it = t .it; after = t .after; there = rw (t .there); again = t .again }
 
 pub repeated-is-twice : RepeatedIsTwice
-repeated-is-twice vs = (repeated-twice vs, λ t. rw (t .there) (repeated-here (t .before) (t .it) (t .behind) (t .again)))
+repeated-is-twice vs = (repeated-twice vs, λ t. rw (t .there) (repeated-here (t .before) (t .it) (t .after) (t .again)))

@@ -70,6 +70,6 @@ pub row-escaped : (bs rest : List ℕ) → rowOf (escaped bs ++ rest) ≡ prefix
 unfolding prefixed
 row-escaped [] rest = rw escaped-nil
 row-escaped (b ∷ bs) rest =
-    let behind = ap (stands b) (row-escaped bs rest) in
-    ⊎-elim (λ plain. rw (escaped-plain b bs plain) (row-plain b (escaped bs ++ rest) plain ∙ behind))
-    (λ code. rw (escaped-code b bs code) (row-escape b (escaped bs ++ rest) code ∙ behind)) (below-or-above 3 b)
+    let after = ap (stands b) (row-escaped bs rest) in
+    ⊎-elim (λ plain. rw (escaped-plain b bs plain) (row-plain b (escaped bs ++ rest) plain ∙ after))
+    (λ code. rw (escaped-code b bs code) (row-escape b (escaped bs ++ rest) code ∙ after)) (below-or-above 3 b)

@@ -34,7 +34,7 @@ neither false t e = (refl, e)
 pub record First (k : ℕ) (v : Variable) (vs : List Variable) : Type 0 where
   pub kind : T (isKind (v .kind))
   pub full : isEmpty (v .name) ≡ false
-  pub behind : Sound (suc k) vs
+  pub after : Sound (suc k) vs
 
 pub first-sound : (k : ℕ) (v : Variable) (vs : List Variable) → Sound k (v ∷ vs) → First k v vs
 unfolding kindsGood nameless
@@ -42,12 +42,12 @@ first-sound k v vs s =
     let good = and-yes (isKind (v .kind)) (kindsGood vs) (s .kinds) in
     let have = neither (isEmpty (v .name)) (nameless vs) (s .full) in
     let fits = s .few in
-    record { kind = good .0; full = have .0; behind = record { kinds = good .1; full = have .1; few = omega arith } }
+    record { kind = good .0; full = have .0; after = record { kinds = good .1; full = have .1; few = omega arith } }
 
 sound-first : (k : ℕ) (v : Variable) (vs : List Variable) → First k v vs → Sound k (v ∷ vs)
 unfolding kindsGood nameless
 sound-first k v vs f =
-    let rest = f .behind in
+    let rest = f .after in
     let fits = rest .few in
     record { kinds = yes-and (isKind (v .kind)) (kindsGood vs) (f .kind) (rest .kinds); full = rw (f .full) (rest .full); few = omega arith }
 
@@ -83,7 +83,7 @@ finds-none k h = record { kinds = tt; full = refl; few = omega arith }
 finds-before : (k : ℕ) (v : Variable) (found : Found) → T (isKind (v .kind)) → isEmpty (v .name) ≡ false → Finds (suc k) found
     → Finds k (addVariable v found)
 unfolding addVariable
-finds-before k v (variables vs) g e s = sound-first k v vs (record { kind = g; full = e; behind = s })
+finds-before k v (variables vs) g e s = sound-first k v vs (record { kind = g; full = e; after = s })
 finds-before k v (fault n) g e s = s
 
 finds-whole : (k : ℕ) (t : Text) (rest : List ℕ → Found) → ((bs : List ℕ) → Finds k (rest bs)) → Finds k (whole t rest)

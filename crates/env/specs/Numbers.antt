@@ -19,8 +19,8 @@ abbrev pub listLimit : ℕ
 listLimit = recordWidth * variableLimit
 
 -- a record of its numbers
-abbrev pub recordOf : ℕ → ℕ → ℕ → ℕ → ℕ → VariableRecord
-recordOf k a n b m = record { kind = k; «name_at» = a; «name_length» = n; «value_at» = b; «value_length» = m }
+abbrev pub variableRecord : (kind nameAt nameLength valueAt valueLength : ℕ) → VariableRecord
+variableRecord k a n b m = record { kind = k; «name_at» = a; «name_length» = n; «value_at» = b; «value_length» = m }
 
 -- the numbers of a record
 abbrev pub numbersOf : VariableRecord → List ℕ
@@ -28,7 +28,7 @@ numbersOf r = r .kind ∷ r .«name_at» ∷ r .«name_length» ∷ r .«value_a
 
 -- the record at the front of numbers; a number that is missing is 0
 abbrev pub recordIn : List ℕ → VariableRecord
-recordIn numbers = recordOf (getD numbers 0 0) (getD numbers 1 0) (getD numbers 2 0) (getD numbers 3 0) (getD numbers 4 0)
+recordIn numbers = variableRecord (getD numbers 0 0) (getD numbers 1 0) (getD numbers 2 0) (getD numbers 3 0) (getD numbers 4 0)
 
 -- the first k records of numbers
 unfoldable pub recordsFrom : ℕ → List ℕ → List VariableRecord
@@ -48,7 +48,7 @@ packed (v ∷ vs) = v .name ++ (v .value ++ packed vs)
 unfoldable pub recorded : ℕ → List Variable → List ℕ
 recorded at [] = []
 recorded at (v ∷ vs) =
-    numbersOf (recordOf (v .kind) at (length (v .name)) (at + length (v .name)) (length (v .value)))
+    numbersOf (variableRecord (v .kind) at (length (v .name)) (at + length (v .name)) (length (v .value)))
     ++ recorded (at + length (v .name) + length (v .value)) vs
 
 -- the variable of a record over a buffer
@@ -56,8 +56,8 @@ abbrev pub variableOf : List ℕ → VariableRecord → Variable
 variableOf bytes r = variable (r .kind) (part bytes (r .«name_at») (r .«name_length»)) (part bytes (r .«value_at») (r .«value_length»))
 
 -- the variables that records have over a buffer
-unfoldable pub held : List ℕ → List ℕ → List Variable
-held bytes numbers = map (variableOf bytes) (recordsOf numbers)
+unfoldable pub variablesHeld : List ℕ → List ℕ → List Variable
+variablesHeld bytes numbers = map (variableOf bytes) (recordsOf numbers)
 
 -- a place with its length does not run past a buffer
 unfoldable pub fits : List ℕ → ℕ → ℕ → Bool

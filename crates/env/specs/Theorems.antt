@@ -10,7 +10,7 @@ use lib.ListN.{length}
 use Rattle.env.specs.Variable.{Variable, VAR, VALUE, ESC, USERVAR, is, among, repeated}
 use Rattle.env.specs.Read.{readingOf, says, notRead}
 use Rattle.env.specs.Write.{payloadOf, kindsGood, Accepted}
-use Rattle.env.specs.Numbers.{packed, recorded, held, placed}
+use Rattle.env.specs.Numbers.{packed, recorded, variablesHeld, placed}
 use Rattle.telnet.specs.Event.{payloadLimit}
 use Rattle.octets.specs.Lent.{overwrite}
 
@@ -30,7 +30,7 @@ ReadsTheSame =
 abbrev pub HoldsAgain : Type 0
 HoldsAgain =
     (bytes : List ℕ) (at : ℕ) (vs : List Variable) → at + length (packed vs) ≤ length bytes
-    → (held (overwrite bytes at (packed vs)) (recorded at vs) ≡ vs)
+    → (variablesHeld (overwrite bytes at (packed vs)) (recorded at vs) ≡ vs)
     × (T (kindsGood vs) → T (placed (overwrite bytes at (packed vs)) (recorded at vs)))
 
 -- A variable is of a kind and has a name where both are its own.
@@ -41,8 +41,8 @@ IsBoth = (kind : ℕ) (name : List ℕ) (v : Variable) → T (is kind name v) �
 pub record Occurs (kind : ℕ) (name : List ℕ) (vs : List Variable) : Type 0 where
   pub before : List Variable
   pub it : Variable
-  pub behind : List Variable
-  pub there : vs ≡ before ++ it ∷ behind
+  pub after : List Variable
+  pub there : vs ≡ before ++ it ∷ after
   pub same-kind : kind ≡ it .kind
   pub same-name : name ≡ it .name
 
@@ -54,9 +54,9 @@ AmongIsOccurs = (kind : ℕ) (name : List ℕ) (vs : List Variable) → T (among
 pub record Twice (vs : List Variable) : Type 0 where
   pub before : List Variable
   pub it : Variable
-  pub behind : List Variable
-  pub there : vs ≡ before ++ it ∷ behind
-  pub again : Occurs (it .kind) (it .name) behind
+  pub after : List Variable
+  pub there : vs ≡ before ++ it ∷ after
+  pub again : Occurs (it .kind) (it .name) after
 
 -- The test for 25 finds a kind and name that are there twice, and nothing else.
 abbrev pub RepeatedIsTwice : Type 0

@@ -2,6 +2,20 @@
 // `specs/Fields.antt`, `specs/Read.antt` and `specs/Write.antt`. The code is in `env_records`, `env_text`,
 // `env_delivery`, `env_variables`, `env_reader`, `env_writer` and `env_list`.
 
+// The codes of a payload (RFC 1572): its first byte, the kinds of a variable, VALUE before a value, and ESC before a
+// byte from VAR to USERVAR in a name or a value.
+pub const IS: u8 = 0;
+
+pub const INFO: u8 = 2;
+
+pub const VAR: u8 = 0;
+
+pub const VALUE: u8 = 1;
+
+pub const ESC: u8 = 2;
+
+pub const USERVAR: u8 = 3;
+
 // A variable record: VAR or USERVAR, and where its name and its value stand in a buffer.
 pub struct VariableRecord {
     pub kind: usize,
@@ -11,8 +25,13 @@ pub struct VariableRecord {
     pub value_length: usize,
 }
 
+// The kind of a record.
+pub const VAR_KIND: usize = VAR as usize;
+
+pub const USERVAR_KIND: usize = USERVAR as usize;
+
 // The most bytes of a payload, and the most variables.
-pub const PAYLOAD_LIMIT: usize = 1024;
+pub const PAYLOAD_LIMIT: usize = telnet::PAYLOAD_LIMIT;
 
 pub const VARIABLE_LIMIT: usize = 64;
 

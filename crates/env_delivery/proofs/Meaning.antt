@@ -16,7 +16,7 @@ use Rattle.octets.proofs.Overwrite.{take-overwrite-front}
 use Rattle.telnet.specs.Event.{payloadLimit}
 use Rattle.env.specs.Variable.{Variable}
 use Rattle.env.specs.Read.{Reading, says, notRead, readingOf}
-use Rattle.env.specs.Numbers.{recordWidth, listLimit, packed, recorded, held}
+use Rattle.env.specs.Numbers.{recordWidth, listLimit, packed, recorded, variablesHeld}
 use Rattle.octets.specs.Part.{part}
 use Rattle.env.proofs.Holding.{held-recorded, length-recorded}
 use Rattle.env.proofs.Short.{Fitting, reading-fitting}
@@ -28,14 +28,14 @@ use Rattle.env_delivery.specs.Theorems.{ReadIsHeld, RoomSuffices}
 -- a delivery whose answer, where it is a reading, means that reading
 abbrev Means : Reading → Delivery → Type 0
 Means r d =
-    (first count used : ℕ) → d .answer ≡ Read first count used → r ≡ says first (held (take used (d .bytes)) (take (recordWidth * count) (d .numbers)))
+    (first count used : ℕ) → d .answer ≡ Read first count used → r ≡ says first (variablesHeld (take used (d .bytes)) (take (recordWidth * count) (d .numbers)))
 
 refused-means : (r : Reading) (n : ℕ) (bytes numbers : List ℕ) → Means r (delivery (Refused n) bytes numbers)
 refused-means r n bytes numbers first count used e = let z : _≡_ {A = ℕ} 0 1 = cc in absurd (omega arith)
 
 -- what is packed and recorded at the front of buffer and list is held by the front
 front-held : (vs : List Variable) (bytes numbers : List ℕ) (count used : ℕ) → length vs ≡ count → length (packed vs) ≡ used
-    → held (take used (overwrite bytes 0 (packed vs))) (take (recordWidth * count) (overwrite numbers 0 (recorded 0 vs))) ≡ vs
+    → variablesHeld (take used (overwrite bytes 0 (packed vs))) (take (recordWidth * count) (overwrite numbers 0 (recorded 0 vs))) ≡ vs
 unfolding part
 front-held vs bytes numbers count used c u =
     let k : recordWidth * count ≡ length (recorded 0 vs) = omega (arith, length-recorded 0 vs) in

@@ -10,7 +10,7 @@ use Rattle.env.specs.Variable.{repeated}
 use Rattle.env.specs.Fields.{rowOf}
 use Rattle.env.specs.Read.{Reading, says, notRead, distinct, variablesOf, readingOf}
 use Rattle.telnet.specs.Event.{payloadLimit}
-use Rattle.env.specs.Numbers.{recordWidth, packed, recorded, held}
+use Rattle.env.specs.Numbers.{recordWidth, packed, recorded, variablesHeld}
 use Rattle.refusal.specs.Refusal.{noRoom, payloadTooLong, repeatedVariable}
 use Rattle.octets.specs.Choice.{if_then_else_}
 use Rattle.octets.specs.Lent.{overwrite}
@@ -37,8 +37,8 @@ abbrev pub readInto : List ℕ → List ℕ → List ℕ → Delivery
 readInto payload bytes numbers = delivered (readingOf payload) bytes numbers
 
 -- what stands after the first byte of a payload, read
-unfoldable pub readBehind : ℕ → List ℕ → List ℕ → List ℕ → Delivery
-readBehind first rest bytes numbers =
+unfoldable pub readAfter : ℕ → List ℕ → List ℕ → List ℕ → Delivery
+readAfter first rest bytes numbers =
     if ltb payloadLimit (length (first ∷ rest)) then delivery (Refused payloadTooLong) bytes numbers
     else delivered (distinct first (variablesOf (rowOf rest))) bytes numbers
 
@@ -52,4 +52,4 @@ handOver first texts records bytes numbers =
 -- handed over unless a variable is there twice
 unfoldable pub deliverRead : ℕ → List ℕ → List ℕ → List ℕ → List ℕ → Delivery
 deliverRead first texts records bytes numbers =
-    if repeated (held texts records) then delivery (Refused repeatedVariable) bytes numbers else handOver first texts records bytes numbers
+    if repeated (variablesHeld texts records) then delivery (Refused repeatedVariable) bytes numbers else handOver first texts records bytes numbers

@@ -7,7 +7,7 @@ use lib.ListN.{length, take}
 use Rattle.telnet.specs.Event.{payloadLimit}
 use Rattle.env.specs.Variable.{Variable}
 use Rattle.env.specs.Read.{readingOf, says}
-use Rattle.env.specs.Numbers.{recordWidth, listLimit, packed, held}
+use Rattle.env.specs.Numbers.{recordWidth, listLimit, packed, variablesHeld}
 use Rattle.env_delivery.specs.declared.Answer.the-variants.{Read}
 use Rattle.env_delivery.specs.Promise.{readInto}
 
@@ -18,7 +18,7 @@ ReadIsHeld =
     (payload bytes numbers : List ℕ) (first count used : ℕ)
     → readInto payload bytes numbers .answer ≡ Read first count used
     → readingOf payload
-    ≡ says first (held (take used (readInto payload bytes numbers .bytes)) (take (recordWidth * count) (readInto payload bytes numbers .numbers)))
+    ≡ says first (variablesHeld (take used (readInto payload bytes numbers .bytes)) (take (recordWidth * count) (readInto payload bytes numbers .numbers)))
 
 -- Room for 1,024 bytes and 64 records is always enough: what a payload says is then read.
 abbrev pub RoomSuffices : Type 0

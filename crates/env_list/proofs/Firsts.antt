@@ -7,7 +7,7 @@ use native.Mathlib.Omega.{arith}
 use lib.ListN.{length, set, take, drop, length-append, length-drop}
 use lib.Seq.{drop-cons, set-at, append-snoc, take-suc}
 use Rattle.env.specs.Numbers.{recordsOf}
-use Rattle.env_list.specs.near.Firsts.{firstRecords}
+use Rattle.env_list.specs.internal.Firsts.{firstRecords}
 use Rattle.env.specs.declared.VariableRecord.{VariableRecord}
 use Rattle.env_records.specs.Records.{blank, recordAt}
 

@@ -8,7 +8,7 @@ use lib.Dec.{ltb}
 use lib.ListN.{length, take, drop, length-take, length-append}
 use lib.Seq.{take-at}
 use borrow.Author.Tests.{ltb-false}
-use Rattle.env_list.specs.near.Firsts.{firstRecords, countOf, Numbered}
+use Rattle.env_list.specs.internal.Firsts.{firstRecords, countOf, Numbered}
 use Rattle.octets.proofs.Order.{ltb-iff}
 use Rattle.octets.specs.Lent.{outcome, overwrite}
 use Rattle.env.specs.Variable.{Variable, variableLimit}

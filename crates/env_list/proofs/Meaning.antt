@@ -11,7 +11,7 @@ use Rattle.octets.specs.Lent.{overwrite}
 use Rattle.env.specs.declared.VariableRecord.{VariableRecord}
 use Rattle.env.specs.Variable.{Variable}
 use Rattle.env.specs.Read.{Reading, says, notRead, readingOf}
-use Rattle.env.specs.Numbers.{recordsOf, variableOf, packed, recorded, held}
+use Rattle.env.specs.Numbers.{recordsOf, variableOf, packed, recorded, variablesHeld}
 use Rattle.env.proofs.Holding.{length-recorded, holds-again}
 use Rattle.env.proofs.Records.{length-records}
 use Rattle.env_delivery.specs.declared.Answer.the-variants.{Read, Refused}
@@ -22,7 +22,7 @@ use Rattle.env_list.proofs.Walks.{either}
 -- records of variables that are packed into a buffer mean those variables
 records-packed : (bytes : List ℕ) (vs : List Variable) → length (packed vs) ≤ length bytes
     → map (variableOf (overwrite bytes 0 (packed vs))) (recordsOf (recorded 0 vs)) ≡ vs
-unfolding held
+unfolding variablesHeld
 records-packed bytes vs h = holds-again bytes 0 vs (omega arith) .0
 
 -- no answer is a refusal and a reading

@@ -4,7 +4,7 @@ use mathlib.Core.Bool.{Bool, true, false}
 use mathlib.Core.List.{List, [], _∷_, _++_}
 use lib.Dec.{ltb}
 use lib.ListN.{length, set}
-use Rattle.env.specs.Numbers.{recordOf}
+use Rattle.env.specs.Numbers.{variableRecord}
 use Rattle.env.specs.declared.VariableRecord.{VariableRecord}
 use Rattle.env_records.specs.Records.{recordAt}
 use Rattle.octets.specs.Choice.{if_then_else_}

@@ -10,7 +10,7 @@ ghost use mathlib.Core.Path.{_≡_};
 ghost use mathlib.Core.List.{_++_};
 ghost use Prim.Native.Nat.{_≤_};
 ghost use lib.ListN.{length, drop, getD};
-ghost use Rattle.env_list.specs.near.Firsts.{firstRecords, countOf, Numbered};
+ghost use Rattle.env_list.specs.internal.Firsts.{firstRecords, countOf, Numbered};
 ghost use Rattle.env_records.specs.Records.{blank};
 ghost use Rattle.env_list.specs.Lists.{listing, setAt};
 ghost use Rattle.env_list.specs.Reading.{readRecords};

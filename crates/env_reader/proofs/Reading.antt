@@ -8,7 +8,7 @@ use borrow.Author.Tests.{le-ltb}
 use lib.ListN.{length, getD, drop}
 use Rattle.telnet.specs.Event.{payloadLimit}
 use Rattle.env_delivery.specs.declared.Answer.the-variants.{Refused}
-use Rattle.env_delivery.specs.Promise.{delivery, delivered, readInto, readBehind}
+use Rattle.env_delivery.specs.Promise.{delivery, delivered, readInto, readAfter}
 use Rattle.env.specs.Variable.{isFirst}
 use Rattle.env.specs.Read.{begun}
 use Rattle.env.proofs.Limits.{reading-short, reading-long}
@@ -32,7 +32,7 @@ module _ (bytes numbers : List ℕ) where
   read-unknown (b ∷ bs) h g e = rw (reading-short (b ∷ bs) g, e)
 
   pub read-known : (p : List ℕ) → 0 < length p → length p ≤ payloadLimit → isFirst (getD p 0 0) ≡ true
-      → readInto p bytes numbers ≡ readBehind (getD p 0 0) (drop 1 p) bytes numbers
-  unfolding begun readBehind
+      → readInto p bytes numbers ≡ readAfter (getD p 0 0) (drop 1 p) bytes numbers
+  unfolding begun readAfter
   read-known [] h g e = absurd (omega arith)
   read-known (b ∷ bs) h g e = rw (reading-short (b ∷ bs) g, e, le-ltb payloadLimit (length (b ∷ bs)) g)

@@ -10,15 +10,15 @@ use Rattle.env_records.specs.Records.{placeIn, placeOf}
 use Rattle.env_records.specs.Theorems.{valueAt, FindsTheValue, AbsentWhereNone}
 use Rattle.env.specs.Variable.{Lookup, present, is, among, lookup, valueOr}
 use Rattle.env.specs.declared.VariableRecord.{VariableRecord}
-use Rattle.env.specs.Numbers.{recordsOf, variableOf, held}
+use Rattle.env.specs.Numbers.{recordsOf, variableOf, variablesHeld}
 use Rattle.octets.specs.Part.{part}
 use Rattle.octets.specs.Choice.{if_then_else_}
 
-value-of : (bytes : List ℕ) (a n : ℕ) (test : Bool) (behind : ValuePlace) (rest : Lookup) → valueAt bytes behind ≡ rest
-    → valueAt bytes (if test then At a n else behind) ≡ (if test then present (part bytes a n) else rest)
+value-of : (bytes : List ℕ) (a n : ℕ) (test : Bool) (after : ValuePlace) (rest : Lookup) → valueAt bytes after ≡ rest
+    → valueAt bytes (if test then At a n else after) ≡ (if test then present (part bytes a n) else rest)
 unfolding valueAt
-value-of bytes a n true behind rest e = refl
-value-of bytes a n false behind rest e = e
+value-of bytes a n true after rest e = refl
+value-of bytes a n false after rest e = e
 
 finds-in : (kind : ℕ) (name bytes : List ℕ) (rs : List VariableRecord)
     → valueAt bytes (placeIn kind name bytes rs) ≡ lookup kind name (map (variableOf bytes) rs)
@@ -29,7 +29,7 @@ finds-in kind name bytes (r ∷ rs) =
     (lookup kind name (map (variableOf bytes) rs)) (finds-in kind name bytes rs)
 
 pub finds-the-value : FindsTheValue
-unfolding placeOf held
+unfolding placeOf variablesHeld
 finds-the-value kind name bytes numbers = finds-in kind name bytes (recordsOf numbers)
 
 -- whether a value has a place
@@ -37,10 +37,10 @@ unfoldable there : ValuePlace → Bool
 there Absent = false
 there (At a n) = true
 
-there-of : (a n : ℕ) (test : Bool) (behind : ValuePlace) (rest : Bool) → there behind ≡ rest → there (if test then At a n else behind) ≡ (test || rest)
+there-of : (a n : ℕ) (test : Bool) (after : ValuePlace) (rest : Bool) → there after ≡ rest → there (if test then At a n else after) ≡ (test || rest)
 unfolding there
-there-of a n true behind rest e = refl
-there-of a n false behind rest e = e
+there-of a n true after rest e = refl
+there-of a n false after rest e = e
 
 there-in : (kind : ℕ) (name bytes : List ℕ) (rs : List VariableRecord)
     → there (placeIn kind name bytes rs) ≡ among kind name (map (variableOf bytes) rs)
@@ -50,8 +50,8 @@ there-in kind name bytes (r ∷ rs) =
     there-of (r .«value_at») (r .«value_length») (is kind name (variableOf bytes r)) (placeIn kind name bytes rs)
     (among kind name (map (variableOf bytes) rs)) (there-in kind name bytes rs)
 
-there-among : (kind : ℕ) (name bytes numbers : List ℕ) → there (placeOf kind name bytes numbers) ≡ among kind name (held bytes numbers)
-unfolding placeOf held
+there-among : (kind : ℕ) (name bytes numbers : List ℕ) → there (placeOf kind name bytes numbers) ≡ among kind name (variablesHeld bytes numbers)
+unfolding placeOf variablesHeld
 there-among kind name bytes numbers = there-in kind name bytes (recordsOf numbers)
 
 nowhere : (p : ValuePlace) → there p ≡ false → p ≡ Absent
@@ -67,6 +67,6 @@ absent-where-none kind name bytes numbers =
 
 -- the value at the place that a look-up finds, empty where it finds none
 pub value-found : (kind : ℕ) (name bytes numbers : List ℕ) (p q : ValuePlace) → p ≡ placeOf kind name bytes numbers → p ≡ q
-    → valueOr [] (valueAt bytes q) ≡ valueOr [] (lookup kind name (held bytes numbers))
+    → valueOr [] (valueAt bytes q) ≡ valueOr [] (lookup kind name (variablesHeld bytes numbers))
 value-found kind name bytes numbers p q e told =
     ap (valueOr []) (ap (valueAt bytes) (sym told ∙ e) ∙ finds-the-value kind name bytes numbers)

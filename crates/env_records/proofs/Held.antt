@@ -11,11 +11,11 @@ use Rattle.env_records.proofs.Steps.{held-step}
 use Rattle.env.proofs.Records.{records-from, length-records}
 use Rattle.env.specs.declared.VariableRecord.{VariableRecord}
 use Rattle.env.specs.Variable.{Variable}
-use Rattle.env.specs.Numbers.{recordWidth, recordsOf, variableOf, held}
+use Rattle.env.specs.Numbers.{recordWidth, recordsOf, variableOf, variablesHeld}
 
 -- the variables from i on are those of the records from i on
-pub held-from : (bytes l : List ℕ) (i : ℕ) → drop i (held bytes l) ≡ held bytes (drop (recordWidth * i) l)
-unfolding held
+pub held-from : (bytes l : List ℕ) (i : ℕ) → drop i (variablesHeld bytes l) ≡ variablesHeld bytes (drop (recordWidth * i) l)
+unfolding variablesHeld
 held-from bytes l i = drop-map i (recordsOf l) ∙ ap (map (variableOf bytes)) (sym (records-from l i))
   where
     drop-map : (i : ℕ) (rs : List VariableRecord) → drop i (map (variableOf bytes) rs) ≡ map (variableOf bytes) (drop i rs)
@@ -24,14 +24,14 @@ held-from bytes l i = drop-map i (recordsOf l) ∙ ap (map (variableOf bytes)) (
     drop-map (suc i) (r ∷ rs) = drop-map i rs
 
 -- variable i is the variable of record i
-pub held-at : (bytes l : List ℕ) (i : ℕ) (d : Variable) → i < length l / recordWidth → getD (held bytes l) i d ≡ variableOf bytes (recordAt l i)
+pub held-at : (bytes l : List ℕ) (i : ℕ) (d : Variable) → i < length l / recordWidth → getD (variablesHeld bytes l) i d ≡ variableOf bytes (recordAt l i)
 held-at bytes l i d h =
-    let e : getD (drop i (held bytes l)) 0 d ≡ getD (held bytes l) i d = getD-drop i (held bytes l) 0 d ∙ ap (λ n. getD (held bytes l) n d) (add-zero i) in
+    let e : getD (drop i (variablesHeld bytes l)) 0 d ≡ getD (variablesHeld bytes l) i d = getD-drop i (variablesHeld bytes l) 0 d ∙ ap (λ n. getD (variablesHeld bytes l) n d) (add-zero i) in
     sym e ∙ ap (λ vs. getD vs 0 d) (held-from bytes l i ∙ held-step bytes l i h)
 
 -- a variable for each record
-pub length-held : (bytes l : List ℕ) → length (held bytes l) ≡ length l / recordWidth
-unfolding held
+pub length-held : (bytes l : List ℕ) → length (variablesHeld bytes l) ≡ length l / recordWidth
+unfolding variablesHeld
 length-held bytes l = mapped (recordsOf l) ∙ length-records l
   where
     mapped : (rs : List VariableRecord) → length (map (variableOf bytes) rs) ≡ length rs

@@ -13,7 +13,7 @@ use Rattle.env_records.specs.Records.{blank, recordAt, placeIn, placeOf}
 use Rattle.env.proofs.Records.{records-short, records-next, records-from}
 use Rattle.env.specs.declared.VariableRecord.{VariableRecord}
 use Rattle.env.specs.Variable.{is, among, repeated}
-use Rattle.env.specs.Numbers.{recordWidth, recordIn, recordsOf, variableOf, held, isPlaced, allPlaced, placed}
+use Rattle.env.specs.Numbers.{recordWidth, recordIn, recordsOf, variableOf, variablesHeld, isPlaced, allPlaced, placed}
 use Rattle.octets.specs.Choice.{if_then_else_}
 
 none-left : (l : List ℕ) (i : ℕ) → length l / recordWidth ≤ i → recordsOf (drop (recordWidth * i) l) ≡ []
@@ -44,32 +44,32 @@ pub record-step : (l : List ℕ) (i : ℕ) → i < length l / recordWidth
 record-step l i h = rw (record-of l i h) (some-left l i h)
 
 pub held-step : (bytes l : List ℕ) (i : ℕ) → i < length l / recordWidth
-    → held bytes (drop (recordWidth * i) l) ≡ variableOf bytes (recordAt l i) ∷ held bytes (drop (recordWidth * (i + 1)) l)
-unfolding held
+    → variablesHeld bytes (drop (recordWidth * i) l) ≡ variableOf bytes (recordAt l i) ∷ variablesHeld bytes (drop (recordWidth * (i + 1)) l)
+unfolding variablesHeld
 held-step bytes l i h = ap (map (variableOf bytes)) (record-step l i h)
 
-pub held-end : (bytes l : List ℕ) (i : ℕ) → length l / recordWidth ≤ i → held bytes (drop (recordWidth * i) l) ≡ []
-unfolding held
+pub held-end : (bytes l : List ℕ) (i : ℕ) → length l / recordWidth ≤ i → variablesHeld bytes (drop (recordWidth * i) l) ≡ []
+unfolding variablesHeld
 held-end bytes l i h = ap (map (variableOf bytes)) (none-left l i h)
 
 pub among-step : (kind : ℕ) (name bytes l : List ℕ) (i : ℕ) → i < length l / recordWidth
-    → among kind name (held bytes (drop (recordWidth * i) l))
-    ≡ (is kind name (variableOf bytes (recordAt l i)) || among kind name (held bytes (drop (recordWidth * (i + 1)) l)))
+    → among kind name (variablesHeld bytes (drop (recordWidth * i) l))
+    ≡ (is kind name (variableOf bytes (recordAt l i)) || among kind name (variablesHeld bytes (drop (recordWidth * (i + 1)) l)))
 unfolding among
 among-step kind name bytes l i h = ap (among kind name) (held-step bytes l i h)
 
-pub among-end : (kind : ℕ) (name bytes l : List ℕ) (i : ℕ) → length l / recordWidth ≤ i → among kind name (held bytes (drop (recordWidth * i) l)) ≡ false
+pub among-end : (kind : ℕ) (name bytes l : List ℕ) (i : ℕ) → length l / recordWidth ≤ i → among kind name (variablesHeld bytes (drop (recordWidth * i) l)) ≡ false
 unfolding among
 among-end kind name bytes l i h = ap (among kind name) (held-end bytes l i h)
 
 pub repeated-step : (bytes l : List ℕ) (i : ℕ) → i < length l / recordWidth
     → let v = variableOf bytes (recordAt l i) in
-    repeated (held bytes (drop (recordWidth * i) l))
-    ≡ (among (v .kind) (v .name) (held bytes (drop (recordWidth * (i + 1)) l)) || repeated (held bytes (drop (recordWidth * (i + 1)) l)))
+    repeated (variablesHeld bytes (drop (recordWidth * i) l))
+    ≡ (among (v .kind) (v .name) (variablesHeld bytes (drop (recordWidth * (i + 1)) l)) || repeated (variablesHeld bytes (drop (recordWidth * (i + 1)) l)))
 unfolding repeated
 repeated-step bytes l i h = ap repeated (held-step bytes l i h)
 
-pub repeated-end : (bytes l : List ℕ) (i : ℕ) → length l / recordWidth ≤ i → repeated (held bytes (drop (recordWidth * i) l)) ≡ false
+pub repeated-end : (bytes l : List ℕ) (i : ℕ) → length l / recordWidth ≤ i → repeated (variablesHeld bytes (drop (recordWidth * i) l)) ≡ false
 unfolding repeated
 repeated-end bytes l i h = ap repeated (held-end bytes l i h)
 

@@ -7,7 +7,7 @@ use Rattle.env_records.specs.declared.ValuePlace.{ValuePlace}
 use Rattle.env_records.specs.declared.ValuePlace.the-variants.{Absent, At}
 use Rattle.env_records.specs.Records.{placeOf}
 use Rattle.env.specs.Variable.{Lookup, absent, present, among, lookup}
-use Rattle.env.specs.Numbers.{held}
+use Rattle.env.specs.Numbers.{variablesHeld}
 use Rattle.octets.specs.Part.{part}
 
 -- the value at a place of a buffer
@@ -18,11 +18,11 @@ valueAt bytes (At a n) = present (part bytes a n)
 -- What a look-up finds is the value of the first variable of that kind and name.
 abbrev pub FindsTheValue : Type 0
 FindsTheValue =
-    (kind : ℕ) (name bytes numbers : List ℕ) → valueAt bytes (placeOf kind name bytes numbers) ≡ lookup kind name (held bytes numbers)
+    (kind : ℕ) (name bytes numbers : List ℕ) → valueAt bytes (placeOf kind name bytes numbers) ≡ lookup kind name (variablesHeld bytes numbers)
 
 -- It finds nothing exactly where no variable is of that kind and name.
 abbrev pub AbsentWhereNone : Type 0
 AbsentWhereNone =
     (kind : ℕ) (name bytes numbers : List ℕ)
-    → (placeOf kind name bytes numbers ≡ Absent → among kind name (held bytes numbers) ≡ false)
-    × (among kind name (held bytes numbers) ≡ false → placeOf kind name bytes numbers ≡ Absent)
+    → (placeOf kind name bytes numbers ≡ Absent → among kind name (variablesHeld bytes numbers) ≡ false)
+    × (among kind name (variablesHeld bytes numbers) ≡ false → placeOf kind name bytes numbers ≡ Absent)

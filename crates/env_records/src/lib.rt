@@ -6,10 +6,14 @@ ghost use lib.Dec.{leb};
 ghost use lib.ListN.{length, drop};
 ghost use Rattle.env_records.specs.Records.{recordAt, placeOf};
 ghost use Rattle.env.specs.Variable.{isFirst, isKind, is, among, repeated, lookup, valueOr};
-ghost use Rattle.env.specs.Numbers.{recordWidth, recordOf, numbersOf, variableOf, held};
+ghost use Rattle.env.specs.Numbers.{recordWidth, variableRecord, numbersOf, variableOf, variablesHeld};
 ghost use Rattle.octets.specs.Lent.{outcome};
 ghost use Rattle.octets.specs.Promise.{putAt};
+use env::INFO;
+use env::IS;
 use env::RECORD_WIDTH;
+use env::USERVAR_KIND;
+use env::VAR_KIND;
 use env::VariableRecord;
 
 // Where a value stands in a buffer, and its length.
@@ -22,20 +26,20 @@ pub enum ValuePlace {
 pub fn is_first(b: u8) -> bool
     ensures { λ r. ⌜ r ≡ isFirst b ⌝ }
 {
-    if b == 0 {
+    if b == IS {
         return true;
     }
-    b == 2
+    b == INFO
 }
 
 // Whether a number is the kind of a variable: VAR or USERVAR.
 pub fn is_kind(kind: usize) -> bool
     ensures { λ r. ⌜ r ≡ isKind kind ⌝ }
 {
-    if kind == 0 {
+    if kind == VAR_KIND {
         return true;
     }
-    kind == 3
+    kind == USERVAR_KIND
 }
 
 // The record of a kind, and of the places and lengths of a name and a value: what makes a record of numbers calls it.
@@ -46,7 +50,7 @@ pub fn record_of(
     value_at: usize,
     value_length: usize,
 ) -> VariableRecord
-    ensures { λ r. ⌜ r ≡ recordOf kind «name_at» «name_length» «value_at» «value_length» ⌝ }
+    ensures { λ r. ⌜ r ≡ variableRecord kind «name_at» «name_length» «value_at» «value_length» ⌝ }
 {
     VariableRecord {
         kind: kind,
@@ -125,7 +129,7 @@ pub fn find(bytes: &[u8], numbers: &[usize], kind: usize, name: &[u8]) -> ValueP
 // The value of the first record of a kind and name; empty where there is none, which `find` tells apart from an empty
 // value.
 pub fn value_of<'a>(bytes: &'a [u8], numbers: &[usize], kind: usize, name: &[u8]) -> &'a [u8]
-    ensures { λ r. ⌜ now r ≡ valueOr [] (lookup kind (now (name .entry)) (held (now (bytes .entry)) (now (numbers .entry)))) ⌝ }
+    ensures { λ r. ⌜ now r ≡ valueOr [] (lookup kind (now (name .entry)) (variablesHeld (now (bytes .entry)) (now (numbers .entry)))) ⌝ }
 {
     match find(bytes, numbers, kind, name) {
         ValuePlace::Absent => octets_part::part(bytes, 0, 0),
@@ -135,7 +139,7 @@ pub fn value_of<'a>(bytes: &'a [u8], numbers: &[usize], kind: usize, name: &[u8]
 
 // Whether one of the records from record `from` on is of a kind and name.
 fn occurs(bytes: &[u8], numbers: &[usize], from: usize, kind: usize, name: &[u8]) -> bool
-    ensures { λ r. ⌜ r ≡ among kind (now (name .entry)) (held (now (bytes .entry)) (drop (recordWidth * from) (now (numbers .entry)))) ⌝ }
+    ensures { λ r. ⌜ r ≡ among kind (now (name .entry)) (variablesHeld (now (bytes .entry)) (drop (recordWidth * from) (now (numbers .entry)))) ⌝ }
 {
     let mut i = from;
     while i < numbers.len() / RECORD_WIDTH {
@@ -152,7 +156,7 @@ fn occurs_after(bytes: &[u8], numbers: &[usize], i: usize) -> bool
     requires { ⌜ i < length (now numbers) / recordWidth ⌝ }
     ensures { λ r. ⌜
         (let v = variableOf (now (bytes .entry)) (recordAt (now (numbers .entry)) i) in
-        r ≡ among (v .kind) (v .name) (held (now (bytes .entry)) (drop (recordWidth * (i + 1)) (now (numbers .entry)))))
+        r ≡ among (v .kind) (v .name) (variablesHeld (now (bytes .entry)) (drop (recordWidth * (i + 1)) (now (numbers .entry)))))
         ⌝ }
 {
     let v = record_at(numbers, i);
@@ -162,7 +166,7 @@ fn occurs_after(bytes: &[u8], numbers: &[usize], i: usize) -> bool
 
 // Whether two records are of the same kind and name.
 pub fn repeats(bytes: &[u8], numbers: &[usize]) -> bool
-    ensures { λ r. ⌜ r ≡ repeated (held (now (bytes .entry)) (now (numbers .entry))) ⌝ }
+    ensures { λ r. ⌜ r ≡ repeated (variablesHeld (now (bytes .entry)) (now (numbers .entry))) ⌝ }
 {
     let mut i = 0;
     while i < numbers.len() / RECORD_WIDTH {

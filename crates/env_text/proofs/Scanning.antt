@@ -6,12 +6,12 @@ use mathlib.Core.List.{List, [], _∷_}
 use Prim.Native.Nat.{ℕ, zero, suc, _+_, _-_, _≤_, _<_}
 use native.Mathlib.Nat.{sub-zero}
 use native.Mathlib.Omega.{arith}
-use borrow.Author.Tests.{le-leb, lt-leb, le-ltb}
-use lib.Dec.{ltb}
+use borrow.Author.Tests.{le-leb, lt-leb}
+use lib.Dec.{leb}
 use lib.ListN.{length, getD, drop, length-drop, drop-of-length-le}
 use Rattle.env_text.specs.declared.Extent.{Extent}
 use Rattle.env_text.specs.Text.{Cut, cut, withByte, textOf, endsText, textAt}
-use Rattle.env_text.specs.near.Scan.{IsWidth, IsExtent}
+use Rattle.env_text.specs.internal.Scan.{IsWidth, IsExtent}
 use Rattle.octets.proofs.Front.{at-front, pair-front}
 
 -- the text by its first byte
@@ -31,13 +31,13 @@ text-mark (suc (suc zero)) bs h n = absurd (n refl)
 text-mark (suc (suc (suc zero))) bs h n = refl
 text-mark (suc (suc (suc (suc b)))) bs h n = absurd (omega arith)
 
-mark-other : (b : ℕ) (bs : List ℕ) → (b ≡ 2 → ⊥) → endsText (b ∷ bs) ≡ ltb b 4
+mark-other : (b : ℕ) (bs : List ℕ) → (b ≡ 2 → ⊥) → endsText (b ∷ bs) ≡ leb b 3
 unfolding endsText
 mark-other zero bs n = refl
 mark-other (suc zero) bs n = refl
 mark-other (suc (suc zero)) bs n = absurd (n refl)
 mark-other (suc (suc (suc zero))) bs n = refl
-mark-other (suc (suc (suc (suc b)))) bs n = sym (le-ltb (suc (suc (suc (suc b)))) 4 (omega arith))
+mark-other (suc (suc (suc (suc b)))) bs n = sym (lt-leb (suc (suc (suc (suc b)))) 3 (omega arith))
 
 text-escape : (b : ℕ) (bs : List ℕ) → b ≤ 3 → textOf (2 ∷ b ∷ bs) ≡ withByte b (textOf bs)
 unfolding textOf
@@ -78,11 +78,11 @@ module _ (s : List ℕ) (i : ℕ) where
   pub width-escape : i + 1 < length s → getD s i 0 ≡ 2 → getD s (i + 1) 0 ≤ 3 → IsWidth s i 2
   width-escape h e g =
       let next : i + 2 - 1 ≡ i + 1 = omega arith in
-      let behind : i + 2 ≡ i + 1 + 1 = omega arith in
+      let after : i + 2 ≡ i + 1 + 1 = omega arith in
       record {
         within = λ k. omega arith;
         over = λ z. absurd (omega arith);
-        more = λ k. rw (pair-front s i h, e, next, behind) (text-escape (getD s (i + 1) 0) (drop (i + 1 + 1) s) g);
+        more = λ k. rw (pair-front s i h, e, next, after) (text-escape (getD s (i + 1) 0) (drop (i + 1 + 1) s) g);
       }
 
   pub marked-end : length s ≤ i → endsText (drop i s) ≡ true
@@ -93,13 +93,13 @@ module _ (s : List ℕ) (i : ℕ) where
   unfolding endsText
   marked-escape h e = rw (at-front s i h, e)
 
-  pub marked-other : i < length s → (getD s i 0 ≡ 2 → ⊥) → endsText (drop i s) ≡ ltb (getD s i 0) 4
+  pub marked-other : i < length s → (getD s i 0 ≡ 2 → ⊥) → endsText (drop i s) ≡ leb (getD s i 0) 3
   marked-other h n = rw (at-front s i h) (mark-other (getD s i 0) (drop (i + 1) s) n)
 
 -- a byte of the text stands at a place
 pub record Next (s : List ℕ) (i w : ℕ) : Type 0 where
   pub byte : textOf (drop i s) .bytes ≡ getD s (i + w - 1) 0 ∷ textOf (drop (i + w) s) .bytes
-  pub behind : textOf (drop (i + w) s) .behind ≡ textOf (drop i s) .behind
+  pub after : textOf (drop (i + w) s) .after ≡ textOf (drop i s) .after
   pub counted : length (textOf (drop i s) .bytes) ≡ suc (length (textOf (drop (i + w) s) .bytes))
   pub positive : 0 < w
   pub within : i + w ≤ length s
@@ -107,22 +107,22 @@ pub record Next (s : List ℕ) (i w : ℕ) : Type 0 where
 -- the text is over at a place
 pub record Ended (s : List ℕ) (i : ℕ) : Type 0 where
   pub none : textOf (drop i s) .bytes ≡ []
-  pub rest : drop i s ≡ textOf (drop i s) .behind
+  pub rest : drop i s ≡ textOf (drop i s) .after
 
 abbrev bytesOf : Cut → List ℕ
 bytesOf c = c .bytes
 
-abbrev behindOf : Cut → List ℕ
-behindOf c = c .behind
+abbrev afterOf : Cut → List ℕ
+afterOf c = c .after
 
 pub next : (s : List ℕ) (i w : ℕ) → IsWidth s i w → 0 < w → Next s i w
 unfolding withByte
 next s i w is h =
     let e = is .more h in
-    record { byte = ap bytesOf e; behind = ap behindOf (sym e); counted = ap (λ c. length (c .bytes)) e; positive = h; within = is .within h }
+    record { byte = ap bytesOf e; after = ap afterOf (sym e); counted = ap (λ c. length (c .bytes)) e; positive = h; within = is .within h }
 
 pub ended : (s : List ℕ) (i w : ℕ) → IsWidth s i w → w ≡ 0 → Ended s i
-ended s i w is z = record { none = ap bytesOf (is .over z); rest = ap behindOf (sym (is .over z)) }
+ended s i w is z = record { none = ap bytesOf (is .over z); rest = ap afterOf (sym (is .over z)) }
 
 -- what stands from a place on, by its extent
 pub text-found : (s : List ℕ) (from : ℕ) (e : Extent) (w : Bool) → IsExtent s from e → w ≡ endsText (drop (e .end) s)
@@ -130,7 +130,7 @@ pub text-found : (s : List ℕ) (from : ℕ) (e : Extent) (w : Bool) → IsExten
 unfolding textAt
 text-found s from e w is m =
     let left = ap length (sym (is .rest)) ∙ length-drop (e .end) s in
-    let end : e .end ≡ length s - length (textOf (drop from s) .behind) = omega (arith, left, is .within) in
+    let end : e .end ≡ length s - length (textOf (drop from s) .after) = omega (arith, left, is .within) in
     rw (m, is .rest, is .count, end)
 
 -- past the end no text stands
@@ -138,5 +138,5 @@ pub text-past : (s : List ℕ) (from : ℕ) → length s ≤ from → record { w
 unfolding textAt textOf endsText
 text-past s from h =
     ap (λ n. record { whole = true; length = 0; end = n }) (sym (sub-zero (length s)))
-    ∙ ap (λ l. record { whole = endsText (textOf l .behind); length = length (textOf l .bytes); end = length s - length (textOf l .behind) })
+    ∙ ap (λ l. record { whole = endsText (textOf l .after); length = length (textOf l .bytes); end = length s - length (textOf l .after) })
     (sym (drop-of-length-le s {i = from} h))

@@ -29,8 +29,8 @@ front r = r .front
 
 -- the text at the front, scanned and in the row: whole, or broken
 pub data Scanned (l : List ℕ) : Type 0 where
-  whole-text : endsText (textOf l .behind) ≡ true → rowOf l ≡ row (text (textOf l .bytes)) (rowOf (textOf l .behind) .fields) → Scanned l
-  bad-text : endsText (textOf l .behind) ≡ false → rowOf l .front ≡ broken → Scanned l
+  whole-text : endsText (textOf l .after) ≡ true → rowOf l ≡ row (text (textOf l .bytes)) (rowOf (textOf l .after) .fields) → Scanned l
+  bad-text : endsText (textOf l .after) ≡ false → rowOf l .front ≡ broken → Scanned l
 
 -- a byte more
 further : (b : ℕ) (l bs : List ℕ) → textOf l ≡ withByte b (textOf bs) → rowOf l ≡ stands b (rowOf bs) → Scanned bs → Scanned l
@@ -55,12 +55,12 @@ scanned (suc (suc (suc (suc b))) ∷ bs) = further (suc (suc (suc (suc b)))) (su
 -- how many bytes a text takes, its ESCs among them
 record Taking (l : List ℕ) : Type 0 where
   pub width : ℕ
-  pub rest : drop width l ≡ textOf l .behind
+  pub rest : drop width l ≡ textOf l .after
   pub enough : length (textOf l .bytes) ≤ width
   pub within : width ≤ length l
 
 -- a text without bytes
-none : (l : List ℕ) → l ≡ textOf l .behind → length (textOf l .bytes) ≤ 0 → Taking l
+none : (l : List ℕ) → l ≡ textOf l .after → length (textOf l .bytes) ≤ 0 → Taking l
 none l e h = record { width = 0; rest = e; enough = h; within = omega arith }
 
 taking : (l : List ℕ) → Taking l
@@ -82,7 +82,7 @@ taking (suc (suc (suc (suc b))) ∷ bs) = further-on (taking bs)
 
 -- where a text ends that begins within the bytes
 pub record Placed (s : List ℕ) (from : ℕ) : Type 0 where
-  pub rest : drop (textAt s from .end) s ≡ textOf (drop from s) .behind
+  pub rest : drop (textAt s from .end) s ≡ textOf (drop from s) .after
   pub forward : from + textAt s from .length ≤ textAt s from .end
   pub within : textAt s from .end ≤ length s
 
@@ -91,8 +91,8 @@ unfolding textAt
 placed s from h =
     let is = taking (drop from s) in
     let all = length-drop from s in
-    let left : length (textOf (drop from s) .behind) ≡ length s - from - is .width = ap length (sym (is .rest)) ∙ length-drop (is .width) (drop from s) ∙ ap (λ n. n - is .width) all in
-    let end : length s - length (textOf (drop from s) .behind) ≡ from + is .width = omega (arith, left, all, is .within) in
+    let left : length (textOf (drop from s) .after) ≡ length s - from - is .width = ap length (sym (is .rest)) ∙ length-drop (is .width) (drop from s) ∙ ap (λ n. n - is .width) all in
+    let end : length s - length (textOf (drop from s) .after) ≡ from + is .width = omega (arith, left, all, is .within) in
     record {
       rest = rw (end, ← drop-drop) (is .rest);
       forward = omega (arith, end, is .enough);

@@ -11,15 +11,15 @@ use Rattle.octets.specs.Lent.{Outcome, outcome, overwrite}
 -- the bytes of the text without their ESCs, and what stands after it
 pub record Cut : Type 0 where
   pub bytes : List ℕ
-  pub behind : List ℕ
+  pub after : List ℕ
 
 -- a text of some bytes, and what stands after it
 abbrev pub cut : List ℕ → List ℕ → Cut
-cut bs l = record { bytes = bs; behind = l }
+cut bs l = record { bytes = bs; after = l }
 
 -- a byte more
 unfoldable pub withByte : ℕ → Cut → Cut
-withByte b c = cut (b ∷ c .bytes) (c .behind)
+withByte b c = cut (b ∷ c .bytes) (c .after)
 
 -- the text ends before VAR, VALUE, USERVAR, before an ESC that is none, and at the end
 unfoldable pub textOf : List ℕ → Cut
@@ -45,7 +45,7 @@ endsText (suc (suc (suc (suc b))) ∷ bs) = false
 unfoldable pub textAt : List ℕ → ℕ → Text
 textAt s from =
     let t = textOf (drop from s) in
-    record { whole = endsText (t .behind); length = length (t .bytes); end = length s - length (t .behind) }
+    record { whole = endsText (t .after); length = length (t .bytes); end = length s - length (t .after) }
 
 -- the first bytes of a text, put at a place of a buffer; where there is no room for them a refusal, and the buffer is
 -- as it was

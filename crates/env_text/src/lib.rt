@@ -3,8 +3,10 @@ ghost use mathlib.Core.Path.{_≡_};
 ghost use Prim.Native.Nat.{_≤_};
 ghost use lib.ListN.{length, drop};
 ghost use Rattle.env_text.specs.Text.{endsText, textAt, copyText};
-ghost use Rattle.env_text.specs.near.Scan.{IsWidth, IsExtent};
+ghost use Rattle.env_text.specs.internal.Scan.{IsWidth, IsExtent};
 ghost use Rattle.octets.specs.Lent.{outcome};
+use env::ESC;
+use env::USERVAR;
 use octets::no_room;
 
 // A name or a value in a payload: whether it is whole, its length without ESCs, and the place after it.
@@ -27,16 +29,16 @@ fn width_at(s: &[u8], i: usize) -> usize
     if s.len() <= i {
         return 0;
     }
-    if s[i] > 3 {
+    if s[i] > USERVAR {
         return 1;
     }
-    if s[i] != 2 {
+    if s[i] != ESC {
         return 0;
     }
     if s.len() <= i + 1 {
         return 0;
     }
-    if s[i + 1] > 3 {
+    if s[i + 1] > USERVAR {
         return 0;
     }
     2
@@ -49,10 +51,10 @@ fn ends_text(s: &[u8], i: usize) -> bool
     if s.len() <= i {
         return true;
     }
-    if s[i] == 2 {
+    if s[i] == ESC {
         return false;
     }
-    s[i] < 4
+    s[i] <= USERVAR
 }
 
 // How far the text from a place on goes.

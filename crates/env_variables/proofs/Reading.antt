@@ -10,9 +10,9 @@ use lib.ListN.{length, take, length-take}
 use Rattle.telnet.specs.Event.{payloadLimit}
 use Rattle.env_variables.specs.declared.Found.{Found as Answered}
 use Rattle.env_variables.specs.declared.Found.the-variants.{Variables, Fault}
-use Rattle.env_variables.specs.near.Found.{Buffers, NameRead}
+use Rattle.env_variables.specs.internal.Found.{Buffers, NameRead}
 use Rattle.env_delivery.specs.declared.Answer.the-variants.{Refused}
-use Rattle.env_delivery.specs.Promise.{delivery, delivered, deliverRead, readBehind}
+use Rattle.env_delivery.specs.Promise.{delivery, delivered, deliverRead, readAfter}
 use Rattle.env_delivery.proofs.Handing.{handed-these}
 use Rattle.env.specs.Variable.{Variable, variableLimit}
 use Rattle.env.specs.Fields.{rowOf}
@@ -59,19 +59,19 @@ name-variables (variables vs) count used before r after is e =
 
 -- what the reader delivers, by what stands after the first byte
 module _ (first : ℕ) (rest bytes numbers : List ℕ) where
-  pub long-behind : payloadLimit ≤ length rest → delivery (Refused payloadTooLong) bytes numbers ≡ readBehind first rest bytes numbers
-  unfolding readBehind
-  long-behind h = rw (lt-ltb payloadLimit (length (first ∷ rest)) (omega arith))
+  pub long-after : payloadLimit ≤ length rest → delivery (Refused payloadTooLong) bytes numbers ≡ readAfter first rest bytes numbers
+  unfolding readAfter
+  long-after h = rw (lt-ltb payloadLimit (length (first ∷ rest)) (omega arith))
 
-  short-behind : length rest < payloadLimit → delivered (distinct first (variablesOf (rowOf rest))) bytes numbers ≡ readBehind first rest bytes numbers
-  unfolding readBehind
-  short-behind h = rw (le-ltb payloadLimit (length (first ∷ rest)) (omega arith))
+  short-after : length rest < payloadLimit → delivered (distinct first (variablesOf (rowOf rest))) bytes numbers ≡ readAfter first rest bytes numbers
+  unfolding readAfter
+  short-after h = rw (le-ltb payloadLimit (length (first ∷ rest)) (omega arith))
 
-  pub fault-behind : (n : ℕ) → length rest < payloadLimit → variablesOf (rowOf rest) ≡ fault n
-      → delivery (Refused n) bytes numbers ≡ readBehind first rest bytes numbers
+  pub fault-after : (n : ℕ) → length rest < payloadLimit → variablesOf (rowOf rest) ≡ fault n
+      → delivery (Refused n) bytes numbers ≡ readAfter first rest bytes numbers
   unfolding distinct delivered
-  fault-behind n h e = ap (λ f. delivered (distinct first f) bytes numbers) (sym e) ∙ short-behind h
+  fault-after n h e = ap (λ f. delivered (distinct first f) bytes numbers) (sym e) ∙ short-after h
 
-  pub variables-behind : (vs : List Variable) → length rest < payloadLimit → variablesOf (rowOf rest) ≡ variables vs
-      → deliverRead first (packed vs) (recorded 0 vs) bytes numbers ≡ readBehind first rest bytes numbers
-  variables-behind vs h e = handed-these first vs bytes numbers ∙ ap (λ f. delivered (distinct first f) bytes numbers) (sym e) ∙ short-behind h
+  pub variables-after : (vs : List Variable) → length rest < payloadLimit → variablesOf (rowOf rest) ≡ variables vs
+      → deliverRead first (packed vs) (recorded 0 vs) bytes numbers ≡ readAfter first rest bytes numbers
+  variables-after vs h e = handed-these first vs bytes numbers ∙ ap (λ f. delivered (distinct first f) bytes numbers) (sym e) ∙ short-after h

@@ -6,7 +6,7 @@ use Prim.Native.Nat.{ℕ, _+_, _≤_, _<_}
 use native.Mathlib.Omega.{arith}
 use lib.Dec.{eqb}
 use lib.ListN.{length, getD, drop}
-use Rattle.env_variables.specs.near.Texts.{givesValue, IsTaken}
+use Rattle.env_variables.specs.internal.Texts.{givesValue, IsTaken}
 use Rattle.env_text.specs.declared.Text.{Text}
 use Rattle.env_text.specs.Text.{textOf, endsText, textAt, copyText}
 use Rattle.env_text.proofs.Copying.{copy-left}

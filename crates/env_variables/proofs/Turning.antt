@@ -12,17 +12,17 @@ use lib.Dec.{leb}
 use lib.ListN.{length, getD, drop, length-append}
 use Rattle.env_variables.specs.declared.Found.{Found as Answered}
 use Rattle.env_variables.specs.declared.Found.the-variants.{Variables, Fault}
-use Rattle.env_variables.specs.near.Found.{Buffers, buffers, NameRead}
-use Rattle.env_variables.specs.near.Texts.{givesValue, IsTaken}
-use Rattle.env_variables.specs.near.Turns.{fromName, Valued, valued, badValue, followed, fromValue, completed}
-use Rattle.env_variables.specs.near.Turns.{IsValue, ValueRead}
+use Rattle.env_variables.specs.internal.Found.{Buffers, buffers, NameRead}
+use Rattle.env_variables.specs.internal.Texts.{givesValue, IsTaken}
+use Rattle.env_variables.specs.internal.Turns.{fromName, Valued, valued, badValue, followed, fromValue, completed}
+use Rattle.env_variables.specs.internal.Turns.{IsValue, ValueRead}
 use Rattle.env_text.specs.declared.Text.{Text as Taken}
 use Rattle.env_text.specs.Text.{textOf, endsText}
 use Rattle.env_text.proofs.Standing.{row-marked}
 use Rattle.env.specs.Variable.{variable, variableLimit, VAR, USERVAR, isKind}
 use Rattle.env.specs.Fields.{Text, text, broken, Field, nameField, valueField, row, rowOf, joins, stands, escapes, startsName, startsValue}
 use Rattle.env.specs.Read.{Found, variables, fault, addVariable, limited, whole, named, names, expectNoText}
-use Rattle.env.specs.Numbers.{listLimit, recordWidth, recordOf, numbersOf, packed, recorded}
+use Rattle.env.specs.Numbers.{listLimit, recordWidth, variableRecord, numbersOf, packed, recorded}
 use Rattle.refusal.specs.Refusal.{noVariable, badEscape, valueInValue, tooManyVariables}
 use Rattle.env.proofs.Rows.{row-kind}
 use Rattle.env.proofs.Holding.{length-recorded}
@@ -84,7 +84,7 @@ with-name kind name (valued v vs) at k bytes₀ numbers₀ r bytes numbers is h 
 -- what is stored from the next name on, with the value before it
 pub with-value : (kind : ℕ) (v : List ℕ) (found : Found) (at n k : ℕ) (bytes₀ numbers₀ : List ℕ) (r : Answered) (bytes numbers : List ℕ)
     → NameRead found (at + n + length v) (k + 1)
-    (buffers (overwrite bytes₀ (at + n) v) (overwrite numbers₀ (recordWidth * k) (numbersOf (recordOf kind at n (at + n) (length v))))) r (buffers bytes numbers)
+    (buffers (overwrite bytes₀ (at + n) v) (overwrite numbers₀ (recordWidth * k) (numbersOf (variableRecord kind at n (at + n) (length v))))) r (buffers bytes numbers)
     → at + n + length v ≤ length bytes₀ → k < variableLimit → listLimit ≤ length numbers₀
     → ValueRead (followed v found) kind at n k (buffers bytes₀ numbers₀) r (buffers bytes numbers)
 unfolding ValueRead NameRead followed
@@ -92,7 +92,7 @@ with-value kind v (fault m) at n k bytes₀ numbers₀ r bytes numbers is h g ro
 with-value kind v (variables vs) at n k bytes₀ numbers₀ r bytes numbers is h g room =
     let l = length-overwrite bytes₀ (at + n) v h in
     let fit : at + n + (length v + length (packed vs)) ≤ length bytes₀ = omega (arith, is .within, l) in
-    let this = numbersOf (recordOf kind at n (at + n) (length v)) in
+    let this = numbersOf (variableRecord kind at n (at + n) (length v)) in
     let more = recorded (at + n + length v) vs in
     let count : k + 1 + length vs ≡ k + suc (length vs) = omega arith in
     let used : at + n + length v + length (packed vs) ≡ at + n + length (v ++ packed vs) = omega (arith, length-append v (packed vs)) in
@@ -247,7 +247,7 @@ some-value l bytes₀ at t bytes e is = record {
 pub value-turn : (kind at n k : ℕ) (l bytes₀ bytes₁ numbers₀ : List ℕ) (t : Taken) (r : Answered) (bytes numbers : List ℕ)
     → IsValue l bytes₀ (at + n) t bytes₁ → t .whole ≡ true → at + n + length l ≤ length bytes₀ → k < variableLimit → listLimit ≤ length numbers₀
     → NameRead (fromName valueInValue (k + 1) (rowOf (drop (t .end) l))) (at + n + t .length) (k + 1)
-    (buffers bytes₁ (overwrite numbers₀ (recordWidth * k) (numbersOf (recordOf kind at n (at + n) (t .length))))) r (buffers bytes numbers)
+    (buffers bytes₁ (overwrite numbers₀ (recordWidth * k) (numbersOf (variableRecord kind at n (at + n) (t .length))))) r (buffers bytes numbers)
     → ValueRead (fromValue k (rowOf l .fields)) kind at n k (buffers bytes₀ numbers₀) r (buffers bytes numbers)
 value-turn kind at n k l bytes₀ bytes₁ numbers₀ t r bytes numbers is w h g room more =
     let found = fromName valueInValue (k + 1) (rowOf (drop (t .end) l)) in

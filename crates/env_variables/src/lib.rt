@@ -6,20 +6,21 @@ ghost use mathlib.Core.Bool.{true};
 ghost use mathlib.Core.Path.{_≡_};
 ghost use Prim.Native.Nat.{_+_, _*_, _≤_, _<_};
 ghost use lib.ListN.{length};
-ghost use Rattle.env_variables.specs.near.Found.{buffers, NameRead};
-ghost use Rattle.env_variables.specs.near.Texts.{givesValue, IsTaken};
-ghost use Rattle.env_variables.specs.near.Turns.{fromName, fromValue, HasRoom, IsValue, ValueRead};
+ghost use Rattle.env_variables.specs.internal.Found.{buffers, NameRead};
+ghost use Rattle.env_variables.specs.internal.Texts.{givesValue, IsTaken};
+ghost use Rattle.env_variables.specs.internal.Turns.{fromName, fromValue, HasRoom, IsValue, ValueRead};
 ghost use Rattle.env_text.specs.Text.{endsText};
 ghost use Rattle.env.specs.Variable.{isKind, variableLimit};
-ghost use Rattle.env.specs.Numbers.{recordWidth, recordOf, numbersOf, listLimit};
+ghost use Rattle.env.specs.Numbers.{recordWidth, variableRecord, numbersOf, listLimit};
 ghost use Rattle.telnet.specs.Event.{payloadLimit};
 ghost use Rattle.env.specs.Fields.{rowOf};
 ghost use Rattle.env.specs.Read.{variablesOf};
 ghost use Rattle.octets.specs.Lent.{overwrite};
-ghost use Rattle.env_delivery.specs.Promise.{delivery, readBehind};
+ghost use Rattle.env_delivery.specs.Promise.{delivery, readAfter};
 use env::LIST_LIMIT;
 use env::PAYLOAD_LIMIT;
 use env::RECORD_WIDTH;
+use env::VALUE;
 use env::VARIABLE_LIMIT;
 use env_delivery::Answer;
 use env_delivery::deliver;
@@ -56,7 +57,7 @@ fn gives_value(rest: &[u8]) -> bool
     if rest.len() == 0 {
         return false;
     }
-    rest[0] == 1
+    rest[0] == VALUE
 }
 
 // Puts the text after the first byte at a place of the buffer.
@@ -88,7 +89,7 @@ fn take_value(rest: &[u8], bytes: &mut [u8], at: usize) -> Text
 // Sets record k: a name of n bytes, and m bytes of its value after it.
 fn store(numbers: &mut [usize], k: usize, kind: u8, at: usize, n: usize, m: usize)
     requires { ⌜ (k < variableLimit) × (listLimit ≤ length (now numbers)) × (at + n ≤ payloadLimit) ⌝ }
-    ensures { λ _. ⌜ now (numbers .exit) ≡ overwrite (now (numbers .entry)) (recordWidth * k) (numbersOf (recordOf kind at n (at + n) m)) ⌝ }
+    ensures { λ _. ⌜ now (numbers .exit) ≡ overwrite (now (numbers .entry)) (recordWidth * k) (numbersOf (variableRecord kind at n (at + n) m)) ⌝ }
 {
     set_record(numbers, k, record_of(kind as usize, at, n, at + n, m));
 }
@@ -112,7 +113,7 @@ fn name(
         return Found::Variables(k, at);
     }
     let kind = rest[0];
-    if kind == 1 {
+    if kind == VALUE {
         return Found::Fault(fault);
     }
     if !opens(kind) {
@@ -187,7 +188,7 @@ fn find_variables(
 pub fn read_variables(first: u8, rest: &[u8], bytes: &mut [u8], numbers: &mut [usize]) -> Answer
     ensures { λ r. ⌜
         delivery r (now (bytes .exit)) (now (numbers .exit))
-        ≡ readBehind first (now (rest .entry)) (now (bytes .entry)) (now (numbers .entry))
+        ≡ readAfter first (now (rest .entry)) (now (bytes .entry)) (now (numbers .entry))
         ⌝ }
 {
     if PAYLOAD_LIMIT <= rest.len() {

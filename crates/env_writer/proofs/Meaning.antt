@@ -15,7 +15,7 @@ use Rattle.env.specs.declared.VariableRecord.{VariableRecord}
 use Rattle.env.specs.Variable.{isFirst, isKind}
 use Rattle.env.specs.Read.{readingOf, says}
 use Rattle.env.specs.Write.{Objection, none, against, objection, payloadOf, kindsGood}
-use Rattle.env.specs.Numbers.{recordsOf, variableOf, held, isPlaced, allPlaced, placed}
+use Rattle.env.specs.Numbers.{recordsOf, variableOf, variablesHeld, isPlaced, allPlaced, placed}
 use Rattle.env.proofs.ReadingBack.{reads-back}
 use Rattle.env_writer.specs.declared.Written.{Written}
 use Rattle.env_writer.specs.declared.Written.the-variants.{Wrote, Refused}
@@ -33,18 +33,18 @@ kinds-of bytes (r ∷ rs) t =
 module _ (first : ℕ) (bytes numbers out : List ℕ) where
   -- an answer that means what was written
   abbrev Means : Outcome Written → Type 0
-  Means o = (n : ℕ) → o .answer ≡ Wrote n → readingOf (take n (o .lent)) ≡ says first (held bytes numbers)
+  Means o = (n : ℕ) → o .answer ≡ Wrote n → readingOf (take n (o .lent)) ≡ says first (variablesHeld bytes numbers)
 
   refused-means : (m : ℕ) → Means (outcome (Refused m) out)
   refused-means m n e = let z : _≡_ {A = ℕ} 0 1 = cc in absurd (omega arith)
 
-  put-means : (o : Objection) → objection first (held bytes numbers) ≡ o → T (isFirst first) → T (placed bytes numbers)
-      → Means (put o (payloadOf first (held bytes numbers)) out)
-  unfolding put placed held
+  put-means : (o : Objection) → objection first (variablesHeld bytes numbers) ≡ o → T (isFirst first) → T (placed bytes numbers)
+      → Means (put o (payloadOf first (variablesHeld bytes numbers)) out)
+  unfolding put placed variablesHeld
   put-means (against m) e f p = refused-means m
   put-means none e f p =
-      let payload = payloadOf first (held bytes numbers) in
-      let back = reads-back first (held bytes numbers) (record { begins = f; kinds = kinds-of bytes (recordsOf numbers) p; unobjected = e }) in
+      let payload = payloadOf first (variablesHeld bytes numbers) in
+      let back = reads-back first (variablesHeld bytes numbers) (record { begins = f; kinds = kinds-of bytes (recordsOf numbers) p; unobjected = e }) in
       choice Means (ltb (length out) (length payload)) (λ _. refused-means _) λ _ n w.
       let l : length payload ≡ n = cc in
       rw (← l, take-overwrite-front out payload) back

@@ -10,7 +10,7 @@ use lib.ListN.{length, take, drop, length-append, length-take, length-drop}
 use borrow.Author.Tests.{eq-eqb, ne-eqb, eqb-true, leb-true}
 use Rattle.env.specs.Variable.{VAR, ESC, USERVAR, isKind}
 use Rattle.env.specs.Write.{escaped, writtenVariable, writtenVariables, isEmpty, nameless}
-use Rattle.env.specs.Numbers.{recordWidth, variableOf, held, fits, isPlaced, placed}
+use Rattle.env.specs.Numbers.{recordWidth, variableOf, variablesHeld, fits, isPlaced, placed}
 use Rattle.octets.specs.Part.{part}
 use Rattle.env.specs.declared.VariableRecord.{VariableRecord}
 use Rattle.env_records.specs.Records.{recordAt}
@@ -79,29 +79,29 @@ module _ (bytes l : List ℕ) (i : ℕ) where
 
   -- the variables from record i on
   pub written-from : i < length l / recordWidth
-      → writtenVariables (held bytes (drop (recordWidth * i) l)) ≡ writtenVariable (variableOf bytes (recordAt l i)) ++ writtenVariables (held bytes (drop (recordWidth * (i + 1)) l))
+      → writtenVariables (variablesHeld bytes (drop (recordWidth * i) l)) ≡ writtenVariable (variableOf bytes (recordAt l i)) ++ writtenVariables (variablesHeld bytes (drop (recordWidth * (i + 1)) l))
   unfolding writtenVariables
   written-from h = ap writtenVariables (held-step bytes l i h)
 
   pub length-written-from : i < length l / recordWidth
-      → length (writtenVariables (held bytes (drop (recordWidth * i) l)))
-      ≡ length (writtenVariable (variableOf bytes (recordAt l i))) + length (writtenVariables (held bytes (drop (recordWidth * (i + 1)) l)))
+      → length (writtenVariables (variablesHeld bytes (drop (recordWidth * i) l)))
+      ≡ length (writtenVariable (variableOf bytes (recordAt l i))) + length (writtenVariables (variablesHeld bytes (drop (recordWidth * (i + 1)) l)))
   length-written-from h = ap length (written-from h) ∙ length-append (writtenVariable (variableOf bytes (recordAt l i))) _
 
-  pub written-none : length l / recordWidth ≤ i → writtenVariables (held bytes (drop (recordWidth * i) l)) ≡ []
+  pub written-none : length l / recordWidth ≤ i → writtenVariables (variablesHeld bytes (drop (recordWidth * i) l)) ≡ []
   unfolding writtenVariables
   written-none h = ap writtenVariables (held-end bytes l i h)
 
   -- one of them is nameless: record i, or one after it
   pub nameless-from : i < length l / recordWidth → placed bytes (drop (recordWidth * i) l) ≡ true
-      → nameless (held bytes (drop (recordWidth * i) l)) ≡ (eqb (recordAt l i .«name_length») 0 || nameless (held bytes (drop (recordWidth * (i + 1)) l)))
+      → nameless (variablesHeld bytes (drop (recordWidth * i) l)) ≡ (eqb (recordAt l i .«name_length») 0 || nameless (variablesHeld bytes (drop (recordWidth * (i + 1)) l)))
   unfolding nameless
   nameless-from h e =
       let r = recordAt l i in
       ap nameless (held-step bytes l i h)
-      ∙ ap (λ t. t || nameless (held bytes (drop (recordWidth * (i + 1)) l)))
+      ∙ ap (λ t. t || nameless (variablesHeld bytes (drop (recordWidth * (i + 1)) l)))
       (empty-part bytes (r .«name_at») (r .«name_length») (within bytes r (good-from h e .0) .name))
 
-  pub nameless-none : length l / recordWidth ≤ i → nameless (held bytes (drop (recordWidth * i) l)) ≡ false
+  pub nameless-none : length l / recordWidth ≤ i → nameless (variablesHeld bytes (drop (recordWidth * i) l)) ≡ false
   unfolding nameless
   nameless-none h = ap nameless (held-end bytes l i h)

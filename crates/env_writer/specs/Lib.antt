@@ -1,3 +1,3 @@
 pub mod Promise
 pub mod Theorems
-pub mod near
+pub mod internal

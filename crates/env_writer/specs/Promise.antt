@@ -8,7 +8,7 @@ use Rattle.env_writer.specs.declared.Written.{Written}
 use Rattle.env_writer.specs.declared.Written.the-variants.{Wrote, Refused}
 use Rattle.env.specs.Variable.{isFirst}
 use Rattle.env.specs.Write.{Objection, none, against, objection, payloadOf}
-use Rattle.env.specs.Numbers.{held, placed}
+use Rattle.env.specs.Numbers.{variablesHeld, placed}
 use Rattle.refusal.specs.Refusal.{noRoom, notIsOrInfo, badVariableRecord}
 use Rattle.octets.specs.Choice.{if_then_else_}
 use Rattle.octets.specs.Lent.{Outcome, outcome, overwrite}
@@ -24,6 +24,6 @@ put none payload out =
 unfoldable pub writeInto : ℕ → List ℕ → List ℕ → List ℕ → Outcome Written
 writeInto first bytes numbers out =
     if isFirst first
-    then if placed bytes numbers then put (objection first (held bytes numbers)) (payloadOf first (held bytes numbers)) out
+    then if placed bytes numbers then put (objection first (variablesHeld bytes numbers)) (payloadOf first (variablesHeld bytes numbers)) out
     else outcome (Refused badVariableRecord) out
     else outcome (Refused notIsOrInfo) out

@@ -4,7 +4,7 @@ use mathlib.Core.List.{List}
 use Prim.Native.Nat.{ℕ, _+_}
 use lib.ListN.{take}
 use Rattle.env.specs.Read.{readingOf, says}
-use Rattle.env.specs.Numbers.{held}
+use Rattle.env.specs.Numbers.{variablesHeld}
 use Rattle.env_writer.specs.declared.Written.the-variants.{Wrote}
 use Rattle.env_writer.specs.Promise.{writeInto}
 
@@ -13,4 +13,4 @@ use Rattle.env_writer.specs.Promise.{writeInto}
 abbrev pub WroteReadsBack : Type 0
 WroteReadsBack =
     (first : ℕ) (bytes numbers out : List ℕ) (n : ℕ) → writeInto first bytes numbers out .answer ≡ Wrote n
-    → readingOf (take n (writeInto first bytes numbers out .lent)) ≡ says first (held bytes numbers)
+    → readingOf (take n (writeInto first bytes numbers out .lent)) ≡ says first (variablesHeld bytes numbers)

@@ -6,13 +6,17 @@ ghost use mathlib.Core.List.{List};
 ghost use Prim.Native.Nat.{ℕ, _+_, min, _≤_};
 ghost use lib.ListN.{length};
 ghost use Rattle.env.specs.Write.{escaped, writtenVariable, writtenVariables, nameless};
-ghost use Rattle.env.specs.Numbers.{variableOf, held, isPlaced, placed};
+ghost use Rattle.env.specs.Numbers.{variableOf, variablesHeld, isPlaced, placed};
 ghost use Rattle.telnet.specs.Event.{payloadLimit};
 ghost use Rattle.octets.specs.Lent.{outcome, overwrite, IsPut};
 ghost use Rattle.env_writer.specs.Promise.{writeInto};
-ghost use Rattle.env_writer.specs.near.Puts.{HasRoom};
+ghost use Rattle.env_writer.specs.internal.Puts.{HasRoom};
+use env::ESC;
 use env::PAYLOAD_LIMIT;
 use env::RECORD_WIDTH;
+use env::USERVAR;
+use env::VALUE;
+use env::VAR;
 use env::VARIABLE_LIMIT;
 use env::VariableRecord;
 
@@ -54,7 +58,7 @@ fn all_placed(bytes: &[u8], numbers: &[usize]) -> bool
 
 // Whether a record has an empty name: over any buffer that holds all the names, so has its variable.
 fn any_nameless(numbers: &[usize]) -> bool
-    ensures { λ r. ⌜ ((bytes : List ℕ) → placed bytes (now (numbers .entry)) ≡ true → r ≡ nameless (held bytes (now (numbers .entry)))) ⌝ }
+    ensures { λ r. ⌜ ((bytes : List ℕ) → placed bytes (now (numbers .entry)) ≡ true → r ≡ nameless (variablesHeld bytes (now (numbers .entry)))) ⌝ }
 {
     let mut i = 0;
     while i < numbers.len() / RECORD_WIDTH {
@@ -76,7 +80,7 @@ fn longer(n: usize, text: &[u8]) -> usize
     if PAYLOAD_LIMIT < text.len() {
         return TOO_LONG;
     }
-    let m = n + octets_marked::marked_length(text, 0, 3);
+    let m = n + octets_marked::marked_length(text, VAR, USERVAR);
     if PAYLOAD_LIMIT < m {
         return TOO_LONG;
     }
@@ -99,7 +103,7 @@ fn longer_by_variable(n: usize, bytes: &[u8], v: VariableRecord) -> usize
 // The length of the payload, counted likewise, and no further once it is past the limit.
 fn measure(bytes: &[u8], numbers: &[usize]) -> usize
     requires { ⌜ placed (now bytes) (now numbers) ≡ true ⌝ }
-    ensures { λ r. ⌜ r ≡ min (payloadLimit + 1) (1 + length (writtenVariables (held (now (bytes .entry)) (now (numbers .entry))))) ⌝ }
+    ensures { λ r. ⌜ r ≡ min (payloadLimit + 1) (1 + length (writtenVariables (variablesHeld (now (bytes .entry)) (now (numbers .entry))))) ⌝ }
 {
     let mut n = 1;
     let mut i = 0;
@@ -123,15 +127,15 @@ fn put_variable(bytes: &[u8], v: VariableRecord, out: &mut [u8], at: usize) -> u
     let value = v.value_at;
     let value_end = value + v.value_length;
     out[at] = v.kind as u8;
-    let k = octets_marked::put_marked(&bytes[name..name_end], 2, 0, 3, out, at + 1);
-    out[k] = 1;
-    octets_marked::put_marked(&bytes[value..value_end], 2, 0, 3, out, k + 1)
+    let k = octets_marked::put_marked(&bytes[name..name_end], ESC, VAR, USERVAR, out, at + 1);
+    out[k] = VALUE;
+    octets_marked::put_marked(&bytes[value..value_end], ESC, VAR, USERVAR, out, k + 1)
 }
 
 // Puts the variables after the first byte.
 fn put_all(bytes: &[u8], numbers: &[usize], out: &mut [u8])
     requires { ⌜ HasRoom (now bytes) (now numbers) (now out) ⌝ }
-    ensures { λ _. ⌜ now (out .exit) ≡ overwrite (now (out .entry)) 1 (writtenVariables (held (now (bytes .entry)) (now (numbers .entry)))) ⌝ }
+    ensures { λ _. ⌜ now (out .exit) ≡ overwrite (now (out .entry)) 1 (writtenVariables (variablesHeld (now (bytes .entry)) (now (numbers .entry)))) ⌝ }
 {
     let mut i = 0;
     let mut at = 1;

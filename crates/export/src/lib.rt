@@ -4,8 +4,12 @@
 ghost use mathlib.Core.Path.{_≡_};
 ghost use Rattle.export.specs.Numbers.{kindNumbers, verbNamed, negotiationNamed, kindNamed, KindsNamed, mark};
 ghost use Rattle.telnet.specs.Event.{code};
+use telnet::DO;
+use telnet::DONT;
 use telnet::Kind;
 use telnet::Verb;
+use telnet::WILL;
+use telnet::WONT;
 
 // The kind of an event. `what` is 1 for data, 2 for a command, 3 for a negotiation, 4 for a subnegotiation. `code` is
 // the command, or 251 to 254 for WILL, WONT, DO and DONT. `option` is the option byte. What a kind does not have is 0.
@@ -39,10 +43,10 @@ pub fn code_of(verb: Verb) -> u8
     ensures { λ r. ⌜ r ≡ code verb ⌝ }
 {
     match verb {
-        Verb::Will => 251,
-        Verb::Wont => 252,
-        Verb::Do => 253,
-        Verb::Dont => 254,
+        Verb::Will => WILL,
+        Verb::Wont => WONT,
+        Verb::Do => DO,
+        Verb::Dont => DONT,
     }
 }
 
@@ -77,10 +81,10 @@ pub fn verb_named(code: u8) -> NamedVerb
     ensures { λ r. ⌜ r ≡ verbNamed code ⌝ }
 {
     match code {
-        251 => NamedVerb::Verb(Verb::Will),
-        252 => NamedVerb::Verb(Verb::Wont),
-        253 => NamedVerb::Verb(Verb::Do),
-        254 => NamedVerb::Verb(Verb::Dont),
+        WILL => NamedVerb::Verb(Verb::Will),
+        WONT => NamedVerb::Verb(Verb::Wont),
+        DO => NamedVerb::Verb(Verb::Do),
+        DONT => NamedVerb::Verb(Verb::Dont),
         _ => NamedVerb::Nothing,
     }
 }

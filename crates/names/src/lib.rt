@@ -11,9 +11,16 @@ ghost use Rattle.names.specs.Ebcdic.{ebcdic, blank, ebcdicOf};
 
 // The raised bytes of a name with zeros after them, and how many they are: 0, where a text is no name.
 pub struct Name {
-    pub bytes: [u8; 10],
+    pub bytes: [u8; PROFILE_LIMIT],
     pub length: usize,
 }
+
+// The most bytes of the names of a profile, a device and a system.
+pub const PROFILE_LIMIT: usize = 10;
+
+pub const DEVICE_LIMIT: usize = 10;
+
+pub const SYSTEM_LIMIT: usize = 8;
 
 // EBCDIC's substitute for what it does not have, and its blank.
 const SUBSTITUTE: u8 = 0x3F;
@@ -86,7 +93,7 @@ fn raised_bytes(text: &[u8]) -> [u8; 10]
     requires { ⌜ length (now text) ≤ 10 ⌝ }
     ensures { λ r. ⌜ r ≡ filled 0 10 (raised (now (text .entry))) ⌝ }
 {
-    let mut bytes = [0u8; 10];
+    let mut bytes = [0u8; PROFILE_LIMIT];
     let mut i = 0;
     while i < text.len() {
         bytes[i] = raise(text[i]);
@@ -108,7 +115,7 @@ fn name_of(text: &[u8], limit: usize) -> Name
         };
     }
     Name {
-        bytes: [0u8; 10],
+        bytes: [0u8; PROFILE_LIMIT],
         length: 0,
     }
 }
@@ -117,7 +124,7 @@ fn name_of(text: &[u8], limit: usize) -> Name
 pub fn profile_name(text: &[u8]) -> Name
     ensures { λ r. ⌜ r ≡ named profileLimit (now (text .entry)) ⌝ }
 {
-    name_of(text, 10)
+    name_of(text, PROFILE_LIMIT)
 }
 
 // The device name that a text gives, by the rule of profile names.
@@ -131,7 +138,7 @@ pub fn device_name(text: &[u8]) -> Name
 pub fn system_name(text: &[u8]) -> Name
     ensures { λ r. ⌜ r ≡ named systemLimit (now (text .entry)) ⌝ }
 {
-    name_of(text, 8)
+    name_of(text, SYSTEM_LIMIT)
 }
 
 // The byte at a place of the EBCDIC of a text, and after its end the blank.

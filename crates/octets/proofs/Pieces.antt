@@ -12,13 +12,13 @@ use Rattle.octets.proofs.Promise.{put-whole}
 
 module _ (l : List ℕ) (x y : List ℕ) (at : ℕ) (seam : at ≡ length x) (room : at + length y ≤ length l) where
   -- a piece after those that are there
-  pub behind : overwrite (overwrite l 0 x) at y ≡ overwrite l 0 (x ++ y)
-  behind =
+  pub after : overwrite (overwrite l 0 x) at y ≡ overwrite l 0 (x ++ y)
+  after =
       let z : at ≡ 0 + length x = omega arith in
       rw z (overwrite-append l 0 x y (omega arith))
 
   -- and one that was put there
-  pub put-behind : (b m : List ℕ) (r : Bool) → b ≡ overwrite l 0 x → outcome r m ≡ putAt y b at → m ≡ overwrite l 0 (x ++ y)
-  put-behind b m r e h =
+  pub put-after : (b m : List ℕ) (r : Bool) → b ≡ overwrite l 0 x → outcome r m ≡ putAt y b at → m ≡ overwrite l 0 (x ++ y)
+  put-after b m r e h =
       let n : length b ≡ length l = ap length e ∙ length-overwrite l 0 x (omega arith) in
-      put-whole y b at (omega arith) h ∙ ap (λ k. overwrite k at y) e ∙ behind
+      put-whole y b at (omega arith) h ∙ ap (λ k. overwrite k at y) e ∙ after

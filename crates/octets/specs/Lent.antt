@@ -17,6 +17,6 @@ unfoldable pub overwrite : List ℕ → ℕ → List ℕ → List ℕ
 overwrite buffer at bytes = take at buffer ++ (bytes ++ drop (at + length bytes) buffer)
 
 -- bytes put at a place, told by the place after them and by the buffer as it is left
-pub record IsPut (bytes buffer : List ℕ) (at behind : ℕ) (left : List ℕ) : Type 0 where
-  pub place : behind ≡ at + length bytes
+pub record IsPut (bytes buffer : List ℕ) (at after : ℕ) (left : List ℕ) : Type 0 where
+  pub place : after ≡ at + length bytes
   pub lent : left ≡ overwrite buffer at bytes

@@ -11,11 +11,11 @@ use lib.Seq.{getD-drop, drop-drop}
 use Rattle.octets.proofs.Choice.{choice}
 use Rattle.octets.specs.Find.{upTo}
 
-behind : (b : ℕ) (l : List ℕ) → length (upTo b l) < length l → getD l (length (upTo b l)) 0 ≡ b
+after : (b : ℕ) (l : List ℕ) → length (upTo b l) < length l → getD l (length (upTo b l)) 0 ≡ b
 unfolding upTo
-behind b [] h = absurd (omega arith)
-behind b (c ∷ l) h =
-    choice (λ (r : List ℕ). length r < suc (length l) → getD (c ∷ l) (length r) 0 ≡ b) (eqb c b) (λ e g. eqb-true c b e) (λ e g. behind b l (omega arith)) h
+after b [] h = absurd (omega arith)
+after b (c ∷ l) h =
+    choice (λ (r : List ℕ). length r < suc (length l) → getD (c ∷ l) (length r) 0 ≡ b) (eqb c b) (λ e g. eqb-true c b e) (λ e g. after b l (omega arith)) h
 
 no-later : (b : ℕ) (l : List ℕ) (j : ℕ) → j < length l → getD l j 0 ≡ b → length (upTo b l) ≤ j
 unfolding upTo
@@ -42,7 +42,7 @@ found b s i p h g e = omega (arith, no-later b (drop i s) (p - i) (rw length-dro
 pub not-found : (b : ℕ) (s : List ℕ) (i p : ℕ) → i ≤ p → p < length s → (getD s p 0 ≡ b → ⊥) → i + length (upTo b (drop i s)) ≡ p → ⊥
 not-found b s i p h g n e =
     let d : length (upTo b (drop i s)) ≡ p - i = omega arith in
-    n (sym (from-there s i p h) ∙ rw d at (behind b (drop i s) (rw (d, length-drop) (omega arith))))
+    n (sym (from-there s i p h) ∙ rw d at (after b (drop i s) (rw (d, length-drop) (omega arith))))
 
 pub passed : (b : ℕ) (s : List ℕ) (i k : ℕ) → k ≤ length (upTo b (drop i s)) → length (upTo b (drop i s)) ≡ k + length (upTo b (drop (i + k) s))
 passed b s i k h = rw (drop-drop k i s) at (rest b (drop i s) k h)

@@ -13,7 +13,7 @@ use lib.Seq.{take-suc, getD-drop, length-take-le}
 use Rattle.octets.specs.Lent.{overwrite, IsPut}
 use Rattle.octets.proofs.Overwrite.{overwrite-nil, overwrite-one, overwrite-append, length-overwrite}
 use Rattle.octets_marked.specs.Marked.{marked}
-use Rattle.octets_marked.specs.near.Turn.{Plain, Further}
+use Rattle.octets_marked.specs.internal.Turn.{Plain, Further}
 use Rattle.octets_marked.proofs.Marked.{marked-at, marked-one, marked-end}
 
 pub length-part : (s : List ℕ) (at n : ℕ) → at + n ≤ length s → length (take n (drop at s)) ≡ n

@@ -8,7 +8,7 @@ ghost use lib.Dec.{leb};
 ghost use lib.ListN.{length, take, drop};
 ghost use Rattle.octets.specs.Lent.{outcome, overwrite, IsPut};
 ghost use Rattle.octets_marked.specs.Marked.{marked, putMarked};
-ghost use Rattle.octets_marked.specs.near.Turn.{Plain, Further};
+ghost use Rattle.octets_marked.specs.internal.Turn.{Plain, Further};
 
 // Whether a byte lies in a range, its two ends included.
 fn lies(b: u8, low: u8, high: u8) -> bool

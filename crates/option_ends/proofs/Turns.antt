@@ -16,7 +16,7 @@ use Rattle.option_rules.specs.Table.{Row, rulesOf}
 use Rattle.option_ends.specs.Ends.{near, far, Act, _does_, Ends, at, CallResult, nothing, requested, received, callResult, stepped, changed, move}
 use Rattle.option_ends.specs.Ends.{after, countWhere, sends, granted}
 use Rattle.option_ends.specs.Replay.{actOf, callOf, Standing, commands, atEnd, bothEnds}
-use Rattle.option_ends.specs.near.Turn.{plus, onward, clipped, turn}
+use Rattle.option_ends.specs.internal.Turn.{plus, onward, clipped, turn}
 use Rattle.octets.specs.Choice.{if_then_else_}
 
 pub room : (l : Line) → take 2 (commands l) ≡ commands l

@@ -16,7 +16,7 @@ use Rattle.option_rules.specs.Table.{Row, untouched, carried, rulesOf}
 use Rattle.option_ends.specs.Ends.{End, near, far, request, receive, Call, _does_, Ends, at, fresh, CallResult}
 use Rattle.option_ends.specs.Ends.{taken, callResult, sentBy, stepped, changed, move, after, countWhere, sends, granted}
 use Rattle.option_ends.specs.Replay.{actOf, callOf, callsOf, replayed}
-use Rattle.option_ends.specs.near.Turn.{onward, clipped}
+use Rattle.option_ends.specs.internal.Turn.{onward, clipped}
 use Rattle.option_rules.proofs.Chosen.{by-none}
 use Rattle.option_ends.proofs.Agreement.{after-append, demand3}
 use Rattle.octets.specs.Choice.{if_then_else_}

@@ -7,7 +7,7 @@ ghost use mathlib.Core.Bool.{not};
 ghost use Rattle.option_rules.specs.Table.{rulesOf, onRequest};
 ghost use Rattle.option_ends.specs.Ends.{requested, taken, callResult, isRefusal};
 ghost use Rattle.option_ends.specs.Replay.{actOf, callOf, callsOf, replayed, commands, atEnd, bothEnds, seen};
-ghost use Rattle.option_ends.specs.near.Turn.{plus, onward, clipped, leaves, turn};
+ghost use Rattle.option_ends.specs.internal.Turn.{plus, onward, clipped, leaves, turn};
 ghost use Rattle.octets.specs.Choice.{if_then_else_};
 use crate::Line;
 use crate::Peer;

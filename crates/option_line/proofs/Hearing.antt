@@ -15,7 +15,7 @@ use Rattle.octets.proofs.Overwrite.{length-overwrite}
 use Rattle.telnet.specs.declared.Verb.{Verb}
 use Rattle.telnet.specs.declared.Verb.the-variants.{Will, Wont, Do, Dont}
 use Rattle.telnet.specs.Event.{run, command, negotiation, subnegotiation, lead, iac, code}
-use Rattle.telnet.specs.Read.{Front, noEvent, found, refused, undoubled, runOr, afterIac, afterLead, afterVerb, eventOf}
+use Rattle.telnet.specs.Read.{Front, noEvent, found, refused, dataRun, runOr, afterIac, afterLead, afterVerb, eventOf}
 use Rattle.telnet.proofs.Refusals.{FrontBy, front-by}
 use Rattle.telnet_reader.specs.Promise.{answered, lookAt}
 use Rattle.option_rules.specs.declared.Command.{Command}
@@ -141,7 +141,7 @@ hear-tells = tells-heard
 
 -- an option command at the front of bytes
 command-front : (v : Verb) (o : ℕ) (rest : List ℕ) → eventOf (iac ∷ code v ∷ o ∷ rest) ≡ found (negotiation v o)
-unfolding eventOf undoubled runOr afterIac lead afterLead afterVerb
+unfolding eventOf dataRun runOr afterIac lead afterLead afterVerb
 command-front Will o rest = refl
 command-front Wont o rest = refl
 command-front Do o rest = refl

@@ -3,7 +3,7 @@
 ghost use mathlib.Core.Path.{_≡_};
 ghost use Rattle.option_rules.specs.Table.{stepBy, rulesOf, onReceive, onRequest};
 ghost use Rattle.option_rules.specs.Table as table;
-ghost use Rattle.option_rules.specs.near.Sends.{sendingOf};
+ghost use Rattle.option_rules.specs.internal.Sends.{sendingOf};
 
 // The options that are carried.
 pub const BINARY: u8 = 0;

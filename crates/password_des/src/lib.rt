@@ -15,6 +15,9 @@ pub enum Block {
     Refused(u8),
 }
 
+// The most bytes of a password that has a token by DES.
+pub const PASSWORD_LIMIT: usize = 10;
+
 // A text in EBCDIC, padded with blanks.
 fn padded(text: &[u8]) -> [u8; 16]
     requires { ⌜ length (now text) ≤ 16 ⌝ }
@@ -96,10 +99,10 @@ fn pw_token(password: &[u8], name: &[u8]) -> u64
 pub fn des_token(name: &[u8], password: &[u8]) -> Block
     ensures { λ r. ⌜ r ≡ desToken (now (name .entry)) (now (password .entry)) ⌝ }
 {
-    if !names::is_name(name, 10) {
+    if !names::is_name(name, names::PROFILE_LIMIT) {
         return Block::Refused(refusal::BAD_PROFILE_NAME);
     }
-    if !names::is_name(password, 10) {
+    if !names::is_name(password, PASSWORD_LIMIT) {
         return Block::Refused(refusal::BAD_PASSWORD);
     }
     Block::Value(pw_token(password, name))
@@ -133,7 +136,7 @@ fn pw_sub(token: u64, name: &[u8], server_seed: u64, client_seed: u64) -> u64
 pub fn des_substitute(token: u64, name: &[u8], server_seed: u64, client_seed: u64) -> Block
     ensures { λ r. ⌜ r ≡ desSubstitute token (now (name .entry)) «server_seed» «client_seed» ⌝ }
 {
-    if !names::is_name(name, 10) {
+    if !names::is_name(name, names::PROFILE_LIMIT) {
         return Block::Refused(refusal::BAD_PROFILE_NAME);
     }
     Block::Value(pw_sub(token, name, server_seed, client_seed))

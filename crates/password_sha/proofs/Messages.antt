@@ -8,7 +8,7 @@ use lib.ListN.{length, take, replicate, length-append}
 use Rattle.octets.specs.Lent.{outcome, overwrite}
 use Rattle.octets.specs.Promise.{putAt}
 use Rattle.octets.proofs.Overwrite.{overwrite-whole, overwrite-nil, take-overwrite-front}
-use Rattle.octets.proofs.Pieces.{behind, put-behind}
+use Rattle.octets.proofs.Pieces.{after, put-after}
 use Rattle.names.specs.Name.{raised, isName, profileLimit}
 use Rattle.names.specs.Padding.{filled}
 use Rattle.password_sha.specs.Sha.{unicode, uppercase-unicode-userid}
@@ -27,7 +27,7 @@ token-text t p good few =
     let n = length-userid t good in
     let k = length-unicode p in
     let e : 20 + 2 * length p - 0 ≡ length (u ++ unicode p) = rw length-append (omega arith) in
-    rw (behind (replicate 276 0) u (unicode p) 20 (sym n) (omega arith), e) (take-overwrite-front (replicate 276 0) (u ++ unicode p))
+    rw (after (replicate 276 0) u (unicode p) 20 (sym n) (omega arith), e) (take-overwrite-front (replicate 276 0) (u ++ unicode p))
 
 -- the five pieces of a substitute
 pub substitute-put : (token s c u q : List ℕ) → length token ≡ 20 → length s ≡ 8 → length c ≡ 8 → length u ≡ 20 → length q ≡ 8
@@ -40,9 +40,9 @@ substitute-put token s c u q n₁ n₂ n₃ n₄ n₅ m₁ m₂ m₃ m₅ r₁ r
     let k₃ : 36 ≡ length ((token ++ s) ++ c) = rw length-append (omega arith) in
     let k₄ : 56 ≡ length (((token ++ s) ++ c) ++ u) = rw length-append (omega arith) in
     let k₅ : 64 ≡ length ((((token ++ s) ++ c) ++ u) ++ q) = rw length-append (omega arith) in
-    let a₁ = put-behind z [] token 0 refl (omega arith) z m₁ r₁ (sym (overwrite-nil z 0)) h₁ in
-    let a₂ = put-behind z token s 20 (sym n₁) (omega arith) m₁ m₂ r₂ a₁ h₂ in
-    let a₃ = put-behind z (token ++ s) c 28 k₂ (omega arith) m₂ m₃ r₃ a₂ h₃ in
-    let a₄ = ap (λ m. overwrite m 36 u) a₃ ∙ behind z ((token ++ s) ++ c) u 36 k₃ (omega arith) in
-    let a₅ = put-behind z (((token ++ s) ++ c) ++ u) q 56 k₄ (omega arith) (overwrite m₃ 36 u) m₅ r₅ a₄ h₅ in
+    let a₁ = put-after z [] token 0 refl (omega arith) z m₁ r₁ (sym (overwrite-nil z 0)) h₁ in
+    let a₂ = put-after z token s 20 (sym n₁) (omega arith) m₁ m₂ r₂ a₁ h₂ in
+    let a₃ = put-after z (token ++ s) c 28 k₂ (omega arith) m₂ m₃ r₃ a₂ h₃ in
+    let a₄ = ap (λ m. overwrite m 36 u) a₃ ∙ after z ((token ++ s) ++ c) u 36 k₃ (omega arith) in
+    let a₅ = put-after z (((token ++ s) ++ c) ++ u) q 56 k₄ (omega arith) (overwrite m₃ 36 u) m₅ r₅ a₄ h₅ in
     a₅ ∙ overwrite-whole z ((((token ++ s) ++ c) ++ u) ++ q) (sym k₅) ∙ simp append-assoc

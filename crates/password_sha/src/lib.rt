@@ -63,6 +63,9 @@ fn are_printable(text: &[u8]) -> bool
     true
 }
 
+// The most bytes of a password.
+pub const PASSWORD_LIMIT: usize = 128;
+
 // Whether a text is a password: 1 to 128 bytes of 20X to 7EX.
 fn is_password(text: &[u8]) -> bool
     ensures { λ r. ⌜ r ≡ isPassword (now (text .entry)) ⌝ }
@@ -70,7 +73,7 @@ fn is_password(text: &[u8]) -> bool
     if text.len() == 0 {
         return false;
     }
-    if 128 < text.len() {
+    if PASSWORD_LIMIT < text.len() {
         return false;
     }
     are_printable(text)
@@ -119,7 +122,7 @@ fn token_of(name: &[u8], password: &[u8]) -> Hash
 pub fn sha_token(name: &[u8], password: &[u8]) -> Hash
     ensures { λ r. ⌜ r ≡ shaToken (now (name .entry)) (now (password .entry)) ⌝ }
 {
-    if !names::is_name(name, 10) {
+    if !names::is_name(name, names::PROFILE_LIMIT) {
         return refused(refusal::BAD_PROFILE_NAME);
     }
     if !is_password(password) {
@@ -147,7 +150,7 @@ fn substituted(token: [u8; 20], name: &[u8], server_seed: u64, client_seed: u64)
 pub fn sha_substitute(token: [u8; 20], name: &[u8], server_seed: u64, client_seed: u64) -> Hash
     ensures { λ r. ⌜ r ≡ shaSubstitute token (now (name .entry)) «server_seed» «client_seed» ⌝ }
 {
-    if !names::is_name(name, 10) {
+    if !names::is_name(name, names::PROFILE_LIMIT) {
         return refused(refusal::BAD_PROFILE_NAME);
     }
     hash_of(&substituted(token, name, server_seed, client_seed))

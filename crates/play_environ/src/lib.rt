@@ -5,15 +5,11 @@ ghost use mathlib.Core.Path.{_≡_};
 ghost use Rattle.octets.specs.Lent.{outcome};
 ghost use Rattle.show_event.specs.Sent.{sentAt};
 ghost use Rattle.play_environ.specs.Environment.{request, asked, told, environment};
+use env::ESC;
+use env::USERVAR;
+use env::VAR;
 use show_event::Sender;
 use telnet::Kind;
-
-// The codes of environment strings: ESC goes before each byte from VAR to USERVAR in a name or a value.
-const VAR: u8 = 0;
-
-const ESC: u8 = 2;
-
-const USERVAR: u8 = 3;
 
 // The request for all variables, with the server's seed after the name IBMRSEED. A seed is random: without its ESCs one
 // of nine would end the name.
@@ -32,7 +28,7 @@ pub fn ask(down: &mut [u8], at: usize) -> usize
 {
     let end = show_event::send_event(
         Sender::Host,
-        Kind::Subnegotiation(39),
+        Kind::Subnegotiation(option_rules::NEW_ENVIRON),
         &send_request(),
         down,
         at,
@@ -81,7 +77,7 @@ pub fn tell(up: &mut [u8], at: usize) -> usize
 {
     show_event::send_event(
         Sender::Printer,
-        Kind::Subnegotiation(39),
+        Kind::Subnegotiation(option_rules::NEW_ENVIRON),
         &payload(),
         up,
         at,

@@ -8,7 +8,7 @@ use lib.ListN.{replicate}
 use Rattle.octets.specs.Lent.{Outcome, outcome, overwrite}
 use Rattle.telnet.specs.Event.{lead}
 use Rattle.telnet.specs.Write.{written, writtenAll}
-use Rattle.telnet.specs.Read.{undoubled, eventOf, runOr, afterIac, afterLead, afterVerb}
+use Rattle.telnet.specs.Read.{dataRun, eventOf, runOr, afterIac, afterLead, afterVerb}
 use Rattle.telnet_reader.specs.Promise.{answered, lookAt}
 use Rattle.option_rules.specs.declared.Side.the-variants.{On, Off, WantOn}
 use Rattle.option_rules.specs.Table.{choose, carried, rulesOf}
@@ -17,7 +17,7 @@ use Rattle.option_line.specs.declared.Sent.{Sent}
 use Rattle.option_line.specs.Line.{sent, sentBy, unlessPast, receivedOn, requestedOn, heardOn}
 use Rattle.play_options.specs.declared.Commands.{Commands}
 use Rattle.play_options.specs.Negotiated.{requests, answers as given, exchanged}
-use Rattle.play_options.specs.near.Turns.{turns, askedAll, heardAll, allOn}
+use Rattle.play_options.specs.internal.Turns.{turns, askedAll, heardAll, allOn}
 
 -- the host's side of each option that it asked for
 abbrev pub asking : Sent
@@ -32,7 +32,7 @@ abbrev pub answering : Sent
 answering = sent (sides (pair On On) bothOff (pair On Off) (pair On On) (pair On Off)) 0 18
 
 pub all-answered : heardAll (sent allOff 0 0) (writtenAll requests) (replicate 18 0) ≡ outcome answering (writtenAll given)
-unfolding turns heardOn lookAt answered eventOf runOr undoubled afterIac lead afterLead afterVerb receivedOn unlessPast sentBy choose carried rulesOf pairAt withPair written writtenAll overwrite
+unfolding turns heardOn lookAt answered eventOf runOr dataRun afterIac lead afterLead afterVerb receivedOn unlessPast sentBy choose carried rulesOf pairAt withPair written writtenAll overwrite
 all-answered = refl
 
 -- the host hears them all and has nothing to answer
@@ -40,7 +40,7 @@ abbrev pub resting : Sent
 resting = sent (sides (pair On On) bothOff (pair Off On) (pair On On) (pair Off On)) 0 18
 
 pub all-heard : heardAll asking (writtenAll given) (writtenAll requests) ≡ outcome resting (writtenAll requests)
-unfolding turns heardOn lookAt answered eventOf runOr undoubled afterIac lead afterLead afterVerb receivedOn unlessPast sentBy choose carried rulesOf pairAt withPair written writtenAll overwrite
+unfolding turns heardOn lookAt answered eventOf runOr dataRun afterIac lead afterLead afterVerb receivedOn unlessPast sentBy choose carried rulesOf pairAt withPair written writtenAll overwrite
 all-heard = refl
 
 pub all-rest : allOn 6 0 (resting .sides) ≡ true

@@ -1,4 +1,4 @@
--- The laws of `specs/near/Turns.antt`: one turn, and then those that are left. Assumes nothing.
+-- The laws of `specs/internal/Turns.antt`: one turn, and then those that are left. Assumes nothing.
 use mathlib.Core.Path.{_≡_, ap}
 use mathlib.Core.Bool.{true, false}
 use mathlib.Core.List.{List}
@@ -8,7 +8,7 @@ use Rattle.octets.specs.Lent.{Outcome, outcome}
 use Rattle.option_line.specs.declared.Sent.{Sent}
 use Rattle.option_sides.specs.declared.Sides.{Sides}
 use Rattle.option_sides.specs.Session.{sideAt}
-use Rattle.play_options.specs.near.Turns.{optionAt, whoseAt, turns, isOn, allOn}
+use Rattle.play_options.specs.internal.Turns.{optionAt, whoseAt, turns, isOn, allOn}
 
 pub turned : (turn : ℕ → Sent → List ℕ → Outcome Sent) (n i : ℕ) → i < n → (s : Sent) (line : List ℕ) {s′ : Sent} {line′ : List ℕ}
     → outcome s′ line′ ≡ turn i s line → turns turn (n - (i + 1)) (i + 1) s′ line′ ≡ turns turn (n - i) i s line

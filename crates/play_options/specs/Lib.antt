@@ -1,2 +1,2 @@
-pub mod near
+pub mod internal
 pub mod Negotiated

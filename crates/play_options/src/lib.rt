@@ -6,7 +6,7 @@ ghost use Rattle.octets.specs.Lent.{outcome};
 ghost use Rattle.option_line.specs.Line.{sent};
 ghost use Rattle.option_sides.specs.Session.{allOff};
 ghost use Rattle.play_options.specs.Negotiated.{exchanged, Negotiated};
-ghost use Rattle.play_options.specs.near.Turns.{whoseAt, optionAt, isOn, allOn, askedAll, heardAll};
+ghost use Rattle.play_options.specs.internal.Turns.{whoseAt, optionAt, isOn, allOn, askedAll, heardAll};
 use option_line::Sent;
 use option_rules::Command;
 use option_rules::Side;

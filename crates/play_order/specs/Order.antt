@@ -62,14 +62,14 @@ unfoldable pub replied : List ℕ → ℕ → List ℕ → ℕ → Outcome ℕ
 replied down from up at = placed (heardOn allOff down from true up at)
 
 -- events after what was sent
-abbrev pub sentBehind : List Event → Outcome ℕ → Outcome ℕ
-sentBehind es o = sentAll es (o .lent) (o .answer)
+abbrev pub sentAfter : List Event → Outcome ℕ → Outcome ℕ
+sentAfter es o = sentAll es (o .lent) (o .answer)
 
 -- print complete for what is held
 abbrev pub completed : Ledger → List Event
 completed l = if l .held then recordEvents printComplete else []
 
 -- the order and what goes back for it, on both lines from a place of each on
-pub record Played (down : List ℕ) (downAt : ℕ) (up : List ℕ) (upAt : ℕ) (behind : ℕ) (down′ up′ : List ℕ) : Type 0 where
+pub record Played (down : List ℕ) (downAt : ℕ) (up : List ℕ) (upAt : ℕ) (after : ℕ) (down′ up′ : List ℕ) : Type 0 where
   pub sent : down′ ≡ ordered down downAt .lent
-  pub heardBack : outcome behind up′ ≡ sentBehind (completed (ledgerBy down′ downAt)) (replied down′ (ordered down downAt .answer) up upAt)
+  pub heardBack : outcome after up′ ≡ sentAfter (completed (ledgerBy down′ downAt)) (replied down′ (ordered down downAt .answer) up upAt)

@@ -34,14 +34,14 @@ fn print(down: &mut [u8], at: usize) -> usize
         down,
         at,
     );
-    let behind = show_event::send_event(
+    let next = show_event::send_event(
         Sender::Host,
         Kind::Negotiation(Verb::Do, 6),
         b"",
         down,
         between,
     );
-    show_event::send_record(Sender::Host, b" 40 MW\xFF\x0D\x0A\x0C\x00", down, behind);
+    show_event::send_record(Sender::Host, b" 40 MW\xFF\x0D\x0A\x0C\x00", down, next);
     between
 }
 
@@ -132,6 +132,6 @@ pub fn play(down: &mut [u8], down_at: usize, up: &mut [u8], up_at: usize) -> usi
 {
     let between = print(down, down_at);
     let ledger = take(down, down_at);
-    let behind = reply(down, between, up, up_at);
-    complete(ledger, up, behind)
+    let replied = reply(down, between, up, up_at);
+    complete(ledger, up, replied)
 }

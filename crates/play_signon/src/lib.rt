@@ -58,7 +58,7 @@ fn answer_to(table: &[u8], payload: &[u8]) -> Answer
 pub fn judge(table: &[u8], up: &[u8], at: usize) -> Verdict
     ensures { λ r. ⌜ r ≡ judged (now (table .entry)) (now (up .entry)) at ⌝ }
 {
-    let mut payload = [0u8; 1024];
+    let mut payload = [0u8; telnet::PAYLOAD_LIMIT];
     let answer = telnet_reader::read(up, at, &mut payload);
     let n = length_of(answer);
     let given = answer_to(table, octets_part::part(&payload, 0, n));

@@ -23,7 +23,7 @@ use Rattle.print_ledger.specs.declared.Ledger.{Ledger}
 use Rattle.print_ledger.specs.declared.Completed.{Completed}
 use Rattle.print_frame.specs.Frame.{frameOf}
 use Rattle.print_ledger.specs.Ledger.{fresh, answered, takeFrame, printComplete, completeInto}
-use Rattle.print_ledger.specs.History.{Call, frame, completion, after, held, isOutbound, asks, isPrint, isClear, prints}
+use Rattle.print_ledger.specs.History.{Call, frame, completion, after, heldRecords, isOutbound, asks, isPrintFrame, isClearFrame, prints}
 use Rattle.print_ledger.specs.History.{refusedReceipt, refusedCompletion, refusedCall, accepts, clears, completes, one, countCalls, run}
 use Rattle.print_ledger.specs.Theorems.{PrintsAreHeardBack}
 
@@ -32,9 +32,9 @@ isTaken l a = not (refusedReceipt (answered l a .receipt))
 
 -- what a frame makes of a ledger
 record Stepped (l : Ledger) (a : FrameAnswer) : Type 0 where
-  balanced : held l + one (asks Print a && isTaken l a) ≡ one (asks Clear a && eqb (held l) 1) + held (answered l a .ledger)
-  print-held : T (asks Print a) → held l ≡ 0 → T (asks Print a && isTaken l a) × (held (answered l a .ledger) ≡ 1)
-  clear-empties : T (asks Clear a) → T (isTaken l a) × (held (answered l a .ledger) ≡ 0)
+  balanced : heldRecords l + one (asks Print a && isTaken l a) ≡ one (asks Clear a && eqb (heldRecords l) 1) + heldRecords (answered l a .ledger)
+  print-held : T (asks Print a) → heldRecords l ≡ 0 → T (asks Print a && isTaken l a) × (heldRecords (answered l a .ledger) ≡ 1)
+  clear-empties : T (asks Clear a) → T (isTaken l a) × (heldRecords (answered l a .ledger) ≡ 0)
   kept : T (refusedReceipt (answered l a .receipt)) → answered l a .ledger ≡ l
 
 -- a ledger by whether a record is held
@@ -53,7 +53,7 @@ turned f d o = record {
 }
 
 read-stepped : (h : Bool) (f : Frame) (d : Direction) (o : Operation) → Stepped (marked h) (Read (turned f d o))
-unfolding held isOutbound asks refusedReceipt
+unfolding heldRecords isOutbound asks refusedReceipt
 read-stepped h f Inbound o =
     record { balanced = omega arith; print-held = λ p. absurd p; clear-empties = λ c. absurd c; kept = λ r. refl }
 read-stepped false f Outbound Print =
@@ -76,14 +76,14 @@ isWritten o = not (refusedCompletion (o .answer .completion))
 
 -- what a completion makes of a ledger and an output
 record Ended (l : Ledger) (out : List ℕ) (o : Outcome Completed) : Type 0 where
-  exactly : T (isWritten o) ↔ ((held l ≡ 1) × (length printComplete ≤ length out))
+  exactly : T (isWritten o) ↔ ((heldRecords l ≡ 1) × (length printComplete ≤ length out))
   bytes : o .lent ≡ (if isWritten o then overwrite out 0 printComplete else out)
-  idle : T (isWritten o) → held (o .answer .ledger) ≡ 0
+  idle : T (isWritten o) → heldRecords (o .answer .ledger) ≡ 0
   kept : T (refusedCompletion (o .answer .completion)) → o .answer .ledger ≡ l
-  balanced : held l ≡ one (isWritten o) + held (o .answer .ledger)
+  balanced : heldRecords l ≡ one (isWritten o) + heldRecords (o .answer .ledger)
 
 mark-ended : (h : Bool) (out : List ℕ) → Ended (marked h) out (completeInto (marked h) out)
-unfolding refusedCompletion held completeInto
+unfolding refusedCompletion heldRecords completeInto
 mark-ended false out = record {
   exactly = (λ w. absurd w, λ h. absurd (omega arith));
   bytes = refl;
@@ -111,8 +111,8 @@ mark-ended true out =
 completion-ended : (l : Ledger) (out : List ℕ) → Ended l out (completeInto l out)
 completion-ended l = mark-ended (l .held)
 
-call-balanced : (l : Ledger) (k : Call) → held l + one (accepts l k) ≡ one (completes l k) + one (clears l k) + held (after l k)
-unfolding after isPrint isClear prints refusedCall accepts clears completes takeFrame
+call-balanced : (l : Ledger) (k : Call) → heldRecords l + one (accepts l k) ≡ one (completes l k) + one (clears l k) + heldRecords (after l k)
+unfolding after isPrintFrame isClearFrame prints refusedCall accepts clears completes takeFrame
 call-balanced l (frame f) = omega (arith, stepped l (frameOf f) .balanced)
 call-balanced l (completion out) = omega (arith, completion-ended l out .balanced)
 
@@ -122,25 +122,25 @@ call-kept l (frame f) = stepped l (frameOf f) .kept
 call-kept l (completion out) = completion-ended l out .kept
 
 -- the balance from any ledger on
-balance : (l : Ledger) (ks : List Call) → held l + countCalls accepts l ks ≡ countCalls completes l ks + countCalls clears l ks + held (run l ks)
+balance : (l : Ledger) (ks : List Call) → heldRecords l + countCalls accepts l ks ≡ countCalls completes l ks + countCalls clears l ks + heldRecords (run l ks)
 unfolding countCalls run
 balance l [] = omega arith
 balance l (k ∷ ks) = omega (arith, call-balanced l k, balance (after l k) ks)
 
 -- where nothing is held, nothing is completed until a print is accepted
-none-without-print : (l : Ledger) (ks : List Call) → held l ≡ 0 → countCalls accepts l ks ≡ 0 → countCalls completes l ks ≡ 0
+none-without-print : (l : Ledger) (ks : List Call) → heldRecords l ≡ 0 → countCalls accepts l ks ≡ 0 → countCalls completes l ks ≡ 0
 none-without-print l ks e none = omega (arith, balance l ks)
 
 none-of-no : (b c : Bool) → T (not b) → one (b && c) ≡ 0
 none-of-no true c n = absurd n
 none-of-no false c n = refl
 
-only-prints : (l : Ledger) (k : Call) → T (not (prints k)) → held l ≡ 0 → held (after l k) ≡ 0
+only-prints : (l : Ledger) (k : Call) → T (not (prints k)) → heldRecords l ≡ 0 → heldRecords (after l k) ≡ 0
 unfolding accepts
 only-prints l k n e = omega (arith, call-balanced l k, none-of-no (prints k) (not (refusedCall l k)) n)
 
 pub prints-are-heard-back : PrintsAreHeardBack
-unfolding after held isPrint isClear prints refusedCall accepts completes takeFrame
+unfolding after heldRecords isPrintFrame isClearFrame prints refusedCall accepts completes takeFrame
 prints-are-heard-back ks =
     let all = balance fresh ks in
     let l = run fresh ks in

@@ -35,8 +35,8 @@ abbrev pub one : Bool → ℕ
 one b = if b then 1 else 0
 
 -- how many records a ledger holds
-unfoldable pub held : Ledger → ℕ
-held l = one (l .held)
+unfoldable pub heldRecords : Ledger → ℕ
+heldRecords l = one (l .held)
 
 -- whether a frame goes from the server to the client
 unfoldable pub isOutbound : Direction → Bool
@@ -49,16 +49,16 @@ asks o (Read f) = isOutbound (f .direction) && eqb (operationCode (f .operation)
 asks o (NotRead n) = false
 
 -- bytes that are a good outbound print
-unfoldable pub isPrint : List ℕ → Bool
-isPrint f = asks Print (frameOf f)
+unfoldable pub isPrintFrame : List ℕ → Bool
+isPrintFrame f = asks Print (frameOf f)
 
 -- bytes that are a good outbound clear
-unfoldable pub isClear : List ℕ → Bool
-isClear f = asks Clear (frameOf f)
+unfoldable pub isClearFrame : List ℕ → Bool
+isClearFrame f = asks Clear (frameOf f)
 
 -- a call that is a good outbound print
 unfoldable pub prints : Call → Bool
-prints (frame f) = isPrint f
+prints (frame f) = isPrintFrame f
 prints (completion out) = false
 
 -- a receipt that is a number
@@ -84,7 +84,7 @@ accepts l k = prints k && not (refusedCall l k)
 
 -- it clears a record where it is a clear and one is held
 unfoldable pub clears : Ledger → Call → Bool
-clears l (frame f) = isClear f && eqb (held l) 1
+clears l (frame f) = isClearFrame f && eqb (heldRecords l) 1
 clears l (completion out) = false
 
 -- it completes a record where it is a completion and is not refused

@@ -12,7 +12,7 @@ use Rattle.print_frame.specs.declared.Operation.the-variants.{Print}
 use Rattle.print_frame.specs.declared.FrameAnswer.the-variants.{Read}
 use Rattle.print_frame.specs.Frame.{flagsOf, frameOf}
 use Rattle.print_ledger.specs.Ledger.{fresh, printComplete, completeInto}
-use Rattle.print_ledger.specs.History.{Call, frame, completion, after, held, isPrint, isClear, prints, refusedCall}
+use Rattle.print_ledger.specs.History.{Call, frame, completion, after, heldRecords, isPrintFrame, isClearFrame, prints, refusedCall}
 use Rattle.print_ledger.specs.History.{accepts, completes, countCalls, run, acceptedPrints, recordsCleared, completions}
 use Rattle.telnet.specs.Event.{run as dataRun, command, eor}
 use Rattle.telnet.specs.Write.{writtenAll}
@@ -24,12 +24,12 @@ use Rattle.octets.specs.Lent.{overwrite}
 -- of calls, and so at every point of a history.
 pub record HeardBack (ks : List Call) : Type 0 where
   -- "accepted prints equal completions plus records cleared plus the one held, each counted from the history of calls"
-  pub total : acceptedPrints ks ≡ completions ks + recordsCleared ks + held (run fresh ks)
+  pub total : acceptedPrints ks ≡ completions ks + recordsCleared ks + heldRecords (run fresh ks)
   -- at most one completion for each accepted print
   pub at-most-one : completions ks ≤ acceptedPrints ks
   -- a completion is written exactly when a record is held and there is room for it
   pub exactly : (out : List ℕ)
-      → T (completes (run fresh ks) (completion out)) ↔ ((held (run fresh ks) ≡ 1) × (length printComplete ≤ length out))
+      → T (completes (run fresh ks) (completion out)) ↔ ((heldRecords (run fresh ks) ≡ 1) × (length printComplete ≤ length out))
   -- then the ten bytes are written and nothing else, otherwise nothing
   pub bytes : (out : List ℕ)
       → completeInto (run fresh ks) out .lent ≡ (if completes (run fresh ks) (completion out) then overwrite out 0 printComplete else out)
@@ -42,13 +42,13 @@ pub record HeardBack (ks : List Call) : Type 0 where
       → countCalls accepts (after (run fresh ks) (completion out)) js ≡ 0 → countCalls completes (after (run fresh ks) (completion out)) js ≡ 0
   -- "a print frame when idle is held": an outbound print is accepted where nothing is held, and then one is held
   pub print-held : (f : List ℕ)
-      → T (isPrint f) → held (run fresh ks) ≡ 0 → T (accepts (run fresh ks) (frame f)) × (held (after (run fresh ks) (frame f)) ≡ 1)
+      → T (isPrintFrame f) → heldRecords (run fresh ks) ≡ 0 → T (accepts (run fresh ks) (frame f)) × (heldRecords (after (run fresh ks) (frame f)) ≡ 1)
   -- "a clear empties it, idle or not": an outbound clear is not refused, and nothing is held after it, whatever was
   -- held
   pub clear-empties : (f : List ℕ)
-      → T (isClear f) → T (not (refusedCall (run fresh ks) (frame f))) × (held (after (run fresh ks) (frame f)) ≡ 0)
+      → T (isClearFrame f) → T (not (refusedCall (run fresh ks) (frame f))) × (heldRecords (after (run fresh ks) (frame f)) ≡ 0)
   -- where nothing is held, no call but an outbound print makes the ledger hold a record
-  pub only-prints : (k : Call) → T (not (prints k)) → held (run fresh ks) ≡ 0 → held (after (run fresh ks) k) ≡ 0
+  pub only-prints : (k : Call) → T (not (prints k)) → heldRecords (run fresh ks) ≡ 0 → heldRecords (after (run fresh ks) k) ≡ 0
   -- a call that is refused hands the ledger back as it was
   pub kept : (k : Call) → T (refusedCall (run fresh ks) k) → after (run fresh ks) k ≡ run fresh ks
 

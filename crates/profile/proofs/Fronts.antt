@@ -77,7 +77,7 @@ pub record Fronts (s : Shape) (p : Profile) (rest : List ℕ) : Type 0 where
   pub is : T (isRecord s (recordBytes p ++ rest))
   pub says : profileAt s (recordBytes p ++ rest) ≡ p
   pub named : nameAt (recordBytes p ++ rest) ≡ p .name
-  pub behind : drop (2 + bodyLength s (nameLengthAt (recordBytes p ++ rest))) (recordBytes p ++ rest) ≡ rest
+  pub after : drop (2 + bodyLength s (nameLengthAt (recordBytes p ++ rest))) (recordBytes p ++ rest) ≡ rest
   pub some : 0 < length (recordBytes p ++ rest)
 
 pub length-body : (s : Shape) (p : Profile) → WellFormed s p → length (bodyOf p) ≡ bodyLength s (length (p .name))
@@ -101,8 +101,8 @@ module _ (s : Shape) (p : Profile) (rest : List ℕ) (w : WellFormed s p) (short
   tokens-there =
       rw (append-assoc, drop-append-seam (p .name) (tokenBytes (p .tokens) ++ rest), ← w .tokens) (split-joined (p .tokens) rest)
 
-  behind-there : drop (length (p .name) + sumOf (s .tokens)) tail ≡ rest
-  behind-there =
+  after-there : drop (length (p .name) + sumOf (s .tokens)) tail ≡ rest
+  after-there =
       let e : length (p .name) + sumOf (s .tokens) ≡ length (p .name ++ tokenBytes (p .tokens)) = omega (arith, length-body s p w) in
       rw e (drop-append-seam (p .name ++ tokenBytes (p .tokens)) rest)
 
@@ -121,6 +121,6 @@ module _ (s : Shape) (p : Profile) (rest : List ℕ) (w : WellFormed s p) (short
             (yes-and (ltb (flagsByte (p .marks)) (2 ^ s .marks)) _ (lt→ltb (flagsByte (p .marks)) (2 ^ s .marks) below) (rw name-there (w .name))));
         says = rw (marks, four-on n, name-there, tokens-there);
         named = name-there;
-        behind = rw (two-and-two (n + sumOf (s .tokens))) behind-there;
+        after = rw (two-and-two (n + sumOf (s .tokens))) after-there;
         some = omega arith;
       }

@@ -21,38 +21,38 @@ found name p [] = λ e. let z : _≡_ {A = ℕ} 0 1 = cc in absurd (omega arith)
 found name p (q ∷ ps) =
     choice (λ l. l ≡ oneProfile p → Occurs p (q ∷ ps) × (name ≡ p .name)) (same name (q .name))
     (λ t e. let i : q ≡ p = cc in (
-      record { before = []; behind = ps; there = ap (λ r. r ∷ ps) i },
+      record { before = []; after = ps; there = ap (λ r. r ∷ ps) i },
       same-sound name (q .name) (passes (same name (q .name)) t) ∙ ap (λ r. r .name) i,
     ))
     (λ _ e. let o = found name p ps e in (
-      record { before = q ∷ o .0 .before; behind = o .0 .behind; there = ap (λ l. q ∷ l) (o .0 .there) },
+      record { before = q ∷ o .0 .before; after = o .0 .after; there = ap (λ l. q ∷ l) (o .0 .there) },
       o .1,
     ))
 
 -- a name before all of some names comes before each of theirs
-ahead : (s : Shape) (before : List ℕ) (l : List Profile) (p : Profile) (behind : List Profile)
-    → Ascending s before (l ++ p ∷ behind) → T (precedes before (p .name))
-ahead s before [] p behind asc = asc .1 .0
-ahead s before (q ∷ l) p behind asc =
-    strict-and-total .transitive before (q .name) (p .name) (asc .1 .0) (ahead s (q .name) l p behind (asc .1 .1))
+ahead : (s : Shape) (before : List ℕ) (l : List Profile) (p : Profile) (after : List Profile)
+    → Ascending s before (l ++ p ∷ after) → T (precedes before (p .name))
+ahead s before [] p after asc = asc .1 .0
+ahead s before (q ∷ l) p after asc =
+    strict-and-total .transitive before (q .name) (p .name) (asc .1 .0) (ahead s (q .name) l p after (asc .1 .1))
 
 -- what is there is found
-there : (s : Shape) (before : List ℕ) (l : List Profile) (p : Profile) (behind : List Profile)
-    → Ascending s before (l ++ p ∷ behind) → profileNamed (p .name) (l ++ p ∷ behind) ≡ oneProfile p
+there : (s : Shape) (before : List ℕ) (l : List Profile) (p : Profile) (after : List Profile)
+    → Ascending s before (l ++ p ∷ after) → profileNamed (p .name) (l ++ p ∷ after) ≡ oneProfile p
 unfolding profileNamed
-there s before [] p behind asc = rw (is-true (same (p .name) (p .name)) (same-refl (p .name)))
-there s before (q ∷ l) p behind asc =
+there s before [] p after asc = rw (is-true (same (p .name) (p .name)) (same-refl (p .name)))
+there s before (q ∷ l) p after asc =
     choice (λ r. r ≡ oneProfile p) (same (p .name) (q .name))
     (λ t.
     let e = same-sound (p .name) (q .name) (passes (same (p .name) (q .name)) t) in
-    let itself : T (precedes (q .name) (q .name)) = subst (λ n. T (precedes (q .name) n)) e (ahead s (q .name) l p behind (asc .1 .1)) in
+    let itself : T (precedes (q .name) (q .name)) = subst (λ n. T (precedes (q .name) n)) e (ahead s (q .name) l p after (asc .1 .1)) in
     absurd (subst T (strict-and-total .never-itself (q .name)) itself))
-    (λ _. there s (q .name) l p behind (asc .1 .1))
+    (λ _. there s (q .name) l p after (asc .1 .1))
 
 pub lookup-is-membership : LookupIsMembership
 lookup-is-membership s before ps asc name p = (
   found name p ps,
   λ o.
       let e = o .0 .there in
-      rw (o .1, e) (there s before (o .0 .before) p (o .0 .behind) (subst (Ascending s before) e asc)),
+      rw (o .1, e) (there s before (o .0 .before) p (o .0 .after) (subst (Ascending s before) e asc)),
 )

@@ -23,7 +23,7 @@ next-record s short room before p rest w b =
     let bs = recordBytes p ++ rest in
     let f = fronts s p rest w short in
     let right : precedes before (nameAt bs) ≡ true = rw (f .named) (is-true (precedes before (p .name)) b) in
-    one-more s before bs (f .some) room (is-true (isRecord s bs) (f .is)) right ∙ rw (f .says, f .behind, f .named)
+    one-more s before bs (f .some) room (is-true (isRecord s bs) (f .is)) right ∙ rw (f .says, f .after, f .named)
 
 pub records-read-back : RecordsReadBack
 unfolding profilesFrom recordsBytes addProfile unlessEnd

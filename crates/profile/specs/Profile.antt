@@ -33,11 +33,11 @@ abbrev pub desAllowed : Profile → Bool
 desAllowed p = getD (p .marks) 1 false
 
 -- the DES token, and the SHA-1 token
-abbrev pub desToken : Profile → List ℕ
-desToken p = getD (p .tokens) 0 []
+abbrev pub storedDes : Profile → List ℕ
+storedDes p = getD (p .tokens) 0 []
 
-abbrev pub shaToken : Profile → List ℕ
-shaToken p = getD (p .tokens) 1 []
+abbrev pub storedSha : Profile → List ℕ
+storedSha p = getD (p .tokens) 1 []
 
 -- marks as a byte, the first mark in the lowest bit
 unfoldable pub flagsByte : List Bool → ℕ

@@ -13,7 +13,7 @@ use Rattle.octets.specs.Bytes.{Bytes}
 use Rattle.words.specs.BigEndian.{bytes}
 use Rattle.names.specs.Name.{isRaisedName, profileLimit}
 use Rattle.names.specs.Order.{precedes}
-use Rattle.profile.specs.Profile.{Shape, version1, Profile, bodyLength, enabled, desAllowed, desToken, shaToken, recordBytes}
+use Rattle.profile.specs.Profile.{Shape, version1, Profile, bodyLength, enabled, desAllowed, storedDes, storedSha, recordBytes}
 use Rattle.profile.specs.Lookup.{oneProfile, profileNamed}
 use Rattle.profile.specs.Table.{profileCount, TableReading, profiles, tableRefused, profilesFrom, tableOf, recordsBytes, tableBytes}
 
@@ -81,8 +81,8 @@ pub record IsExample (p : Profile) : Type 0 where
   pub name : p .name ≡ ascii "U"
   pub isEnabled : enabled p ≡ true
   pub isDesAllowed : desAllowed p ≡ false
-  pub des : desToken p ≡ bytes 8 0xD1D2D3D4D5D6D7D8
-  pub sha : shaToken p ≡ bytes 20 0xA1A2A3A4A5A6A7A8A9AAABACADAEAFB0B1B2B3B4
+  pub des : storedDes p ≡ bytes 8 0xD1D2D3D4D5D6D7D8
+  pub sha : storedSha p ≡ bytes 20 0xA1A2A3A4A5A6A7A8A9AAABACADAEAFB0B1B2B3B4
 
 -- The table of that record reads as one profile, with its name, marks and tokens.
 pub record ExampleRead : Type 0 where
@@ -93,8 +93,8 @@ pub record ExampleRead : Type 0 where
 -- a profile, somewhere in a list
 pub record Occurs (p : Profile) (ps : List Profile) : Type 0 where
   pub before : List Profile
-  pub behind : List Profile
-  pub there : ps ≡ before ++ p ∷ behind
+  pub after : List Profile
+  pub there : ps ≡ before ++ p ∷ after
 
 -- In ascending profiles a look-up finds a profile exactly where it is one of them and has that name; so no other has
 -- it.

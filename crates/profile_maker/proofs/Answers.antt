@@ -18,7 +18,7 @@ use Rattle.profile.specs.Profile.{flagsByte, recordBytes}
 use Rattle.profile_maker.specs.declared.Made.the-variants.{Wrote, Refused}
 use Rattle.profile_maker.specs.Made.{Making, madeProfile}
 use Rattle.profile_maker.specs.Promise.{makeInto}
-use Rattle.profile_maker.specs.near.Parts.{SaysDes, laidOut}
+use Rattle.profile_maker.specs.internal.Parts.{SaysDes, laidOut}
 use Rattle.profile_maker.proofs.Formed.{laid, size}
 
 -- a good name and a good password, with their token

@@ -17,7 +17,7 @@ use Rattle.profile.specs.Profile.{version1, flagsByte, tokenBytes, sumOf, bodyO
 use Rattle.profile.specs.Theorems.{WellFormed}
 use Rattle.profile.proofs.Fronts.{length-body}
 use Rattle.profile_maker.specs.Made.{Making, hasDesToken, desTokenBytes, madeProfile}
-use Rattle.profile_maker.specs.near.Parts.{laidOut}
+use Rattle.profile_maker.specs.internal.Parts.{laidOut}
 
 length-des : (name password : List ℕ) → length (desTokenBytes name password) ≡ 8
 unfolding desTokenBytes

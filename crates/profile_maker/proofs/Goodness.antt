@@ -50,8 +50,8 @@ made-records-are-good m out n =
 
 ascending : (before : List ℕ) (ms : List Making) → AscendingMakings before ms → Ascending version1 before (map madeProfile ms)
 ascending before [] asc = tt
-ascending before (m ∷ ms) (good, (_, (behind, asc))) =
-    (formed m (is-true (isName profileLimit (m .name)) good), (behind, ascending (raised (m .name)) ms asc))
+ascending before (m ∷ ms) (good, (_, (after, asc))) =
+    (formed m (is-true (isName profileLimit (m .name)) good), (after, ascending (raised (m .name)) ms asc))
 
 pub made-tables-read : MadeTablesRead
 made-tables-read ms asc few = tables-read-back (map madeProfile ms) (ascending [] ms asc) (omega (arith, length-map ms madeProfile, few))

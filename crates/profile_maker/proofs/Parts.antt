@@ -10,14 +10,14 @@ use Rattle.octets.specs.Lent.{outcome, overwrite}
 use Rattle.octets.specs.Promise.{putAt}
 use Rattle.octets.proofs.Choice.{choice}
 use Rattle.octets.proofs.Overwrite.{overwrite-nil}
-use Rattle.octets.proofs.Pieces.{put-behind}
+use Rattle.octets.proofs.Pieces.{put-after}
 use Rattle.words.specs.BigEndian.{bytes}
 use Rattle.names.specs.Name.{isName, profileLimit}
 use Rattle.password_des.specs.declared.Block.{Block}
 use Rattle.password_des.specs.declared.Block.the-variants.{Value, Refused}
 use Rattle.password_des.specs.Answer.{desToken}
 use Rattle.profile_maker.specs.Made.{hasDesToken, desTokenBytes}
-use Rattle.profile_maker.specs.near.Parts.{SaysDes, laidOut}
+use Rattle.profile_maker.specs.internal.Parts.{SaysDes, laidOut}
 
 -- what an answer of `desToken` means for a record
 abbrev pub Means : List ℕ → List ℕ → Bool → Block → Type 0
@@ -42,8 +42,8 @@ record-put l name des sha flags n e room n₃ n₄ m₁ m₂ m₃ m₄ r₁ r₂
     let header : List ℕ = 0 ∷ (30 + n) ∷ flags ∷ n ∷ [] in
     let k₃ : 4 + n ≡ length (header ++ name) = rw length-append (omega arith) in
     let k₄ : 12 + n ≡ length ((header ++ name) ++ des) = rw length-append (omega arith) in
-    let a₁ = put-behind l [] header 0 refl (omega arith) l m₁ r₁ (sym (overwrite-nil l 0)) h₁ in
-    let a₂ = put-behind l header name 4 refl (omega arith) m₁ m₂ r₂ a₁ h₂ in
-    let a₃ = put-behind l (header ++ name) des (4 + n) k₃ (omega arith) m₂ m₃ r₃ a₂ h₃ in
-    let a₄ = put-behind l ((header ++ name) ++ des) sha (12 + n) k₄ (omega arith) m₃ m₄ r₄ a₃ h₄ in
+    let a₁ = put-after l [] header 0 refl (omega arith) l m₁ r₁ (sym (overwrite-nil l 0)) h₁ in
+    let a₂ = put-after l header name 4 refl (omega arith) m₁ m₂ r₂ a₁ h₂ in
+    let a₃ = put-after l (header ++ name) des (4 + n) k₃ (omega arith) m₂ m₃ r₃ a₂ h₃ in
+    let a₄ = put-after l ((header ++ name) ++ des) sha (12 + n) k₄ (omega arith) m₃ m₄ r₄ a₃ h₄ in
     a₄ ∙ rw (e, append-assoc name des sha)

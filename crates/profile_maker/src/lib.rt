@@ -10,7 +10,7 @@ ghost use Rattle.names.specs.Name.{raised, isName, profileLimit};
 ghost use Rattle.profile.specs.Profile.{flagsByte};
 ghost use Rattle.profile_maker.specs.Made.{making};
 ghost use Rattle.profile_maker.specs.Promise.{makeInto};
-ghost use Rattle.profile_maker.specs.near.Parts.{SaysDes, laidOut};
+ghost use Rattle.profile_maker.specs.internal.Parts.{SaysDes, laidOut};
 use password_des::Block;
 
 // How many bytes were written, or the number of a refusal.

@@ -24,11 +24,11 @@ unfolding profileNamed foundFrom recordsBytes sumOf
 tells-from table before at [] asc there name = refl
 tells-from table before at (p ∷ ps) (w, (o, asc)) there name =
     let here : p ≡ standing table at = sym (ap (profileAt version1) there ∙ fronts version1 p (recordsBytes ps) w (omega arith) .says) in
-    let behind : drop (at + length (recordBytes p)) table ≡ recordsBytes ps =
+    let after : drop (at + length (recordBytes p)) table ≡ recordsBytes ps =
     sym (drop-drop (length (recordBytes p)) at table) ∙ ap (drop (length (recordBytes p))) there ∙ drop-append-seam (recordBytes p) (recordsBytes ps) in
     choice₂ (Tells table) (same name (p .name))
     (λ _. (ap oneProfile here, ap (entry at) here))
-    (λ _. tells-from table (p .name) (at + length (recordBytes p)) ps asc behind name)
+    (λ _. tells-from table (p .name) (at + length (recordBytes p)) ps asc after name)
 
 pub found-is-named : FoundIsNamed
 unfolding foundIn

@@ -23,7 +23,7 @@ use Rattle.profile_table.specs.declared.Found.the-variants.{Present, Abs
 use Rattle.profile_table.specs.declared.Step.{Step}
 use Rattle.profile_table.specs.declared.Step.the-variants.{Next, Stop}
 use Rattle.profile_table.specs.Answer.{entry, foundFrom}
-use Rattle.profile_table.specs.near.Steps.{recordsBehind, IsNext, Stepped, orElse, foundHere, scan, continued}
+use Rattle.profile_table.specs.internal.Steps.{recordsAfter, IsNext, Stepped, orElse, foundHere, scan, continued}
 
 -- a record reaches to its end
 pub long : (bs : List ℕ) → isRecord version1 bs ≡ true → 32 + nameLengthAt bs ≤ length bs
@@ -31,13 +31,13 @@ unfolding sumOf
 long bs good = omega (arith, reaches version1 bs good)
 
 module _ (count : ℕ) (before bs : List ℕ) (some : 0 < length bs) where
-  pub stop-malformed : isRecord version1 bs ≡ false → recordsBehind count before bs ≡ tableRefused badProfile
+  pub stop-malformed : isRecord version1 bs ≡ false → recordsAfter count before bs ≡ tableRefused badProfile
   stop-malformed = malformed version1 before bs some (profileCount - count)
 
-  pub stop-too-many : profileCount ≤ count → isRecord version1 bs ≡ true → recordsBehind count before bs ≡ tableRefused profilesNotAscending
+  pub stop-too-many : profileCount ≤ count → isRecord version1 bs ≡ true → recordsAfter count before bs ≡ tableRefused profilesNotAscending
   stop-too-many h good = let none : profileCount - count ≡ 0 = omega arith in rw none (too-many version1 before bs some good)
 
-  pub stop-unordered : isRecord version1 bs ≡ true → precedes before (nameAt bs) ≡ false → recordsBehind count before bs ≡ tableRefused profilesNotAscending
+  pub stop-unordered : isRecord version1 bs ≡ true → precedes before (nameAt bs) ≡ false → recordsAfter count before bs ≡ tableRefused profilesNotAscending
   stop-unordered = not-ascending version1 before bs some (profileCount - count)
 
   pub next : count < profileCount → isRecord version1 bs ≡ true → precedes before (nameAt bs) ≡ true → (n : ℕ) → n ≡ nameLengthAt bs
@@ -79,18 +79,18 @@ module _ (table name : List ℕ) (at count n : ℕ) (found : Found) (before : Li
       rw k (ap (take (nameLengthAt (drop at table))) (sym (drop-drop 4 at table)))
 
   -- the scan after it
-  pub further : continued name count at found (recordsBehind count before (drop at table))
+  pub further : continued name count at found (recordsAfter count before (drop at table))
       ≡ continued name (count + 1) (at + 32 + n) (foundHere at name (profileAt version1 (drop at table)) found)
-      (recordsBehind (count + 1) (nameAt (drop at table)) (drop (at + 32 + n) table))
+      (recordsAfter (count + 1) (nameAt (drop at table)) (drop (at + 32 + n) table))
   unfolding sumOf
   further =
       let bs = drop at table in
       let size : at + length (recordBytes (profileAt version1 bs)) ≡ at + 32 + n = omega (arith, length-record version1 bs (r .is), r .named) in
       let place : at + (2 + bodyLength version1 n) ≡ at + 32 + n = omega arith in
-      let behind : drop (2 + bodyLength version1 n) bs ≡ drop (at + 32 + n) table = drop-drop (2 + bodyLength version1 n) at table ∙ rw place in
+      let after : drop (2 + bodyLength version1 n) bs ≡ drop (at + 32 + n) table = drop-drop (2 + bodyLength version1 n) at table ∙ rw place in
       ap (continued name count at found) (r .reads)
-      ∙ scanned-more name count at found (profileAt version1 bs) (recordsBehind (count + 1) (nameAt bs) (drop (2 + bodyLength version1 n) bs))
-      ∙ rw (size, behind)
+      ∙ scanned-more name count at found (profileAt version1 bs) (recordsAfter (count + 1) (nameAt bs) (drop (2 + bodyLength version1 n) bs))
+      ∙ rw (size, after)
 
 -- what a step said of the part of the table that was lent
 pub stepped : (table before : List ℕ) (at count : ℕ) (s t : Step) → Stepped count before (take (length table - at) (drop at table)) s → s ≡ t
@@ -110,7 +110,7 @@ or-absent (Present e) = refl
 or-absent (Refused n) = refl
 
 pub ended : (table name before : List ℕ) (at count : ℕ) (found : Found) → length table ≤ at
-    → continued name count at found (recordsBehind count before (drop at table)) ≡ scan count found
+    → continued name count at found (recordsAfter count before (drop at table)) ≡ scan count found
 unfolding foundFrom
 ended table name before at count found h =
     rw (drop-of-length-le table {i = at} h, none-left (profileCount - count) before, or-absent found, add-zero)

@@ -29,7 +29,7 @@ use Rattle.profile_table.specs.declared.Scan.{Scan}
 use Rattle.profile_table.specs.declared.Found.{Found}
 use Rattle.profile_table.specs.declared.Found.the-variants.{Present, Absent, Refused}
 use Rattle.profile_table.specs.Answer.{checked, entry, foundFrom, foundIn}
-use Rattle.profile_table.specs.near.Steps.{recordsBehind, scanned}
+use Rattle.profile_table.specs.internal.Steps.{recordsAfter, scanned}
 
 pub no-table : (t : List ℕ) → length t ≡ 0 → tableOf t ≡ tableRefused badTable
 unfolding tableOf
@@ -41,7 +41,7 @@ unfolding tableOf
 other-version [] h n = absurd (omega arith)
 other-version (v ∷ bs) h n = rw (ne-eqb v 1 n)
 
-pub by-records : (t : List ℕ) → 0 < length t → getD t 0 0 ≡ 1 → tableOf t ≡ recordsBehind 0 [] (drop 1 t)
+pub by-records : (t : List ℕ) → 0 < length t → getD t 0 0 ≡ 1 → tableOf t ≡ recordsAfter 0 [] (drop 1 t)
 unfolding tableOf
 by-records [] h e = absurd (omega arith)
 by-records (v ∷ bs) h e = rw (eq-eqb v 1 e)

@@ -1,3 +1,3 @@
 pub mod Answer
 pub mod Theorems
-pub mod near
+pub mod internal

@@ -9,7 +9,7 @@ ghost use Rattle.names.specs.Name.{raised};
 ghost use Rattle.profile.specs.Profile.{version1};
 ghost use Rattle.profile.specs.Table.{nameLengthAt, profileAt, isRecord, tableOf};
 ghost use Rattle.profile_table.specs.Answer.{checked, entry, foundIn};
-ghost use Rattle.profile_table.specs.near.Steps.{Stepped, recordsBehind, foundHere, scan, scanned};
+ghost use Rattle.profile_table.specs.internal.Steps.{Stepped, recordsAfter, foundHere, scan, scanned};
 
 // How many profiles a table has at most.
 pub const PROFILE_COUNT: usize = 500;
@@ -125,7 +125,7 @@ fn find_here(found: Found, bytes: &[u8], n: usize, at: usize, name: &[u8]) -> Fo
 // The records after the version byte, and the profile of a name among them.
 fn scan_records(table: &[u8], name: &[u8]) -> Scan
     requires { ⌜ 0 < length (now table) ⌝ }
-    ensures { λ r. ⌜ r ≡ scanned (now (name .entry)) (recordsBehind 0 [] (drop 1 (now (table .entry)))) ⌝ }
+    ensures { λ r. ⌜ r ≡ scanned (now (name .entry)) (recordsAfter 0 [] (drop 1 (now (table .entry)))) ⌝ }
 {
     let mut at: usize = 1;
     let mut before: usize = 1;

@@ -2,7 +2,7 @@
 ghost use mathlib.Core.Path.{_≡_};
 ghost use Prim.Native.Nat.{_+_, _<_};
 ghost use lib.ListN.{take, drop};
-ghost use Rattle.profile.specs.Profile.{version1, desAllowed, desToken, shaToken};
+ghost use Rattle.profile.specs.Profile.{version1, desAllowed, storedDes, storedSha};
 ghost use Rattle.profile.specs.Table.{nameLengthAt, profileAt};
 
 // The bytes of a table from a place on, or none after its end.
@@ -25,14 +25,14 @@ fn token_part(table: &[u8], at: usize, from: usize, count: usize) -> &[u8]
 // The DES token of the profile whose record stands at a place that `profile_table::find` gave; at any other place, what
 // stands there as if it were one.
 pub fn des_token(table: &[u8], at: usize) -> &[u8]
-    ensures { λ r. ⌜ now r ≡ desToken (profileAt version1 (drop at (now (table .entry)))) ⌝ }
+    ensures { λ r. ⌜ now r ≡ storedDes (profileAt version1 (drop at (now (table .entry)))) ⌝ }
 {
     token_part(table, at, 0, 8)
 }
 
 // And its SHA-1 token.
 pub fn sha_token(table: &[u8], at: usize) -> &[u8]
-    ensures { λ r. ⌜ now r ≡ shaToken (profileAt version1 (drop at (now (table .entry)))) ⌝ }
+    ensures { λ r. ⌜ now r ≡ storedSha (profileAt version1 (drop at (now (table .entry)))) ⌝ }
 {
     token_part(table, at, 8, 20)
 }

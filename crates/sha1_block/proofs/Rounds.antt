@@ -9,7 +9,7 @@ use lib.ListN.{length, take, set}
 use lib.Seq.{length-take-le, take-suc-set}
 use borrow.Author.Tests.{lt-ltb, le-ltb}
 use Rattle.sha1.specs.Sha1.{Five, byRound, extended, schedule, round, rounds}
-use Rattle.sha1_block.specs.near.Between.{planned, Rounded}
+use Rattle.sha1_block.specs.internal.Between.{planned, Rounded}
 use Rattle.sha1_block.proofs.Schedule.{none-left}
 
 module _ {A : Type 0} (x y z u : A) (t : ℕ) where

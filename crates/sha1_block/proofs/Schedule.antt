@@ -11,7 +11,7 @@ use Rattle.words.specs.BigEndian.{number}
 use Rattle.words.specs.Blocks.{wordsOf}
 use Rattle.words.proofs.Blocks.{cut-short, words-step}
 use Rattle.sha1.specs.Sha1.{ROTL, back, next, extended}
-use Rattle.sha1_block.specs.near.Between.{planned}
+use Rattle.sha1_block.specs.internal.Between.{planned}
 
 -- the word i back from t, of an array whose first t words are there
 back-take : (t i : ℕ) (w : List ℕ) → t ≤ length w → 0 < i → i ≤ t → back (take t w) i ≡ getD w (t - i) 0

@@ -7,7 +7,7 @@ ghost use Rattle.words.specs.BigEndian.{number};
 ghost use Rattle.words.specs.Blocks.{cut};
 ghost use Rattle.sha1.specs.Sha1.{_⊞_, f, K, next, schedule, round, rounds, compressed, hashed};
 ghost use Rattle.sha1_block.specs.Held.{five};
-ghost use Rattle.sha1_block.specs.near.Between.{planned, Carried};
+ghost use Rattle.sha1_block.specs.internal.Between.{planned, Carried};
 
 // The five words of a hash value, or the working variables.
 pub struct Words {

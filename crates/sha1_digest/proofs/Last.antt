@@ -8,7 +8,7 @@ use lib.ListN.{length, drop}
 use Rattle.words.specs.BigEndian.{bytes}
 use Rattle.words.specs.Blocks.{cut}
 use Rattle.words.specs.Padding.{padding, padded}
-use Rattle.words.specs.near.Tail.{tail}
+use Rattle.words.specs.internal.Tail.{tail}
 use Rattle.words.proofs.BigEndian.{bytes-mod}
 use Rattle.words.proofs.Blocks.{cut-append}
 use Rattle.words.proofs.Tail.{tail-is}

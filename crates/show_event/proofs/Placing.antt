@@ -16,24 +16,24 @@ use Rattle.telnet.specs.Write.{written, writable}
 use Rattle.telnet_writer.specs.declared.Written.{Written}
 use Rattle.telnet_writer.specs.declared.Written.the-variants.{Wrote, Refused}
 use Rattle.telnet_writer.specs.Promise.{writeOf}
-use Rattle.show_event.specs.Sent.{placeBehind, behindPlace, sentAt, sentAll}
+use Rattle.show_event.specs.Sent.{placeAfter, afterPlace, sentAt, sentAll}
 
-pub behind-the-end : (e : Event) (line : List ℕ) (at : ℕ) → length line < at → outcome at line ≡ sentAt e line at
+pub after-the-end : (e : Event) (line : List ℕ) (at : ℕ) → length line < at → outcome at line ≡ sentAt e line at
 unfolding sentAt
-behind-the-end e line at h = rw (lt-ltb (length line) at h) refl
+after-the-end e line at h = rw (lt-ltb (length line) at h) refl
 
-within : (e : Event) (line : List ℕ) (at : ℕ) → at ≤ length line → behindPlace line at (writeOf e (drop at line)) ≡ sentAt e line at
+within : (e : Event) (line : List ℕ) (at : ℕ) → at ≤ length line → afterPlace line at (writeOf e (drop at line)) ≡ sentAt e line at
 unfolding sentAt
 within e line at h = rw (le-ltb (length line) at h) refl
 
 -- the part from the place to the end, as the writer leaves it, put back
 pub put-back : (e : Event) (line part : List ℕ) (at : ℕ) (answer r : Written)
     → at ≤ length line → outcome answer part ≡ writeOf e (take (length line - at) (drop at line)) → answer ≡ r
-    → outcome (placeBehind at r) (putMid at (length line - at) line part) ≡ sentAt e line at
+    → outcome (placeAfter at r) (putMid at (length line - at) line part) ≡ sentAt e line at
 put-back e line part at answer r h w told =
-    ap (λ (l : List ℕ). outcome (placeBehind at r) (take at line ++ (part ++ l))) (post-is at (length line) line h ∙ drop-length line)
-    ∙ ap (λ (l : List ℕ). outcome (placeBehind at r) (take at line ++ l)) (append-nil part)
-    ∙ ap (behindPlace line at) (ap (λ a. outcome a part) (sym told) ∙ w ∙ ap (writeOf e) (part-to-end line at))
+    ap (λ (l : List ℕ). outcome (placeAfter at r) (take at line ++ (part ++ l))) (post-is at (length line) line h ∙ drop-length line)
+    ∙ ap (λ (l : List ℕ). outcome (placeAfter at r) (take at line ++ l)) (append-nil part)
+    ∙ ap (afterPlace line at) (ap (λ a. outcome a part) (sym told) ∙ w ∙ ap (writeOf e) (part-to-end line at))
     ∙ within e line at h
 
 -- what is written keeps within what is lent

@@ -19,17 +19,17 @@ nextPlace at (Found kind length next) = next
 nextPlace at (NotRead number) = at
 
 -- the place after what was written
-abbrev pub placeBehind : ℕ → Written → ℕ
-placeBehind at (Wrote n) = at + n
-placeBehind at (Refused number) = at
+abbrev pub placeAfter : ℕ → Written → ℕ
+placeAfter at (Wrote n) = at + n
+placeAfter at (Refused number) = at
 
 -- what the writer leaves, after what stands before the place
-abbrev pub behindPlace : List ℕ → ℕ → Outcome Written → Outcome ℕ
-behindPlace line at o = outcome (placeBehind at (o .answer)) (take at line ++ o .lent)
+abbrev pub afterPlace : List ℕ → ℕ → Outcome Written → Outcome ℕ
+afterPlace line at o = outcome (placeAfter at (o .answer)) (take at line ++ o .lent)
 
 -- nothing is written at a place after the end
 unfoldable pub sentAt : Event → List ℕ → ℕ → Outcome ℕ
-sentAt e line at = if ltb (length line) at then outcome at line else behindPlace line at (writeOf e (drop at line))
+sentAt e line at = if ltb (length line) at then outcome at line else afterPlace line at (writeOf e (drop at line))
 
 -- events one after the other
 unfoldable pub sentAll : List Event → List ℕ → ℕ → Outcome ℕ

@@ -72,7 +72,7 @@ fn say_meaning(answer: Answer) {
 }
 
 // The place after what stands at a place.
-fn behind(at: usize, answer: Answer) -> usize
+fn after(at: usize, answer: Answer) -> usize
     ensures { λ r. ⌜ r ≡ nextPlace at answer ⌝ }
 {
     match answer {
@@ -94,7 +94,7 @@ pub fn say_event(sender: Sender, line: &[u8], at: usize) -> usize
     say_sender(sender);
     say_line(at, answer);
     say_meaning(answer);
-    behind(at, answer)
+    after(at, answer)
 }
 
 // Writes an event at a place of the line; the answer is the place after it. Where it is refused, or the place is after
@@ -126,7 +126,7 @@ pub fn send_record(sender: Sender, bytes: &[u8], line: &mut [u8], at: usize) -> 
     ensures { λ r. ⌜ outcome r (now (line .exit)) ≡ sentAll (recordEvents (now (bytes .entry))) (now (line .entry)) at ⌝ }
 {
     let run = send_event(sender, Kind::Data, bytes, line, at);
-    send_event(sender, Kind::Command(239), b"", line, run)
+    send_event(sender, Kind::Command(telnet::EOR), b"", line, run)
 }
 
 // Says the option commands of a line that has no other events; they have three bytes each. The answer is how many.

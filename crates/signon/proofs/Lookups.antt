@@ -38,11 +38,11 @@ module _ (kind : ℕ) (name : List ℕ) where
   present-told (v ∷ vs) value =
       choice (λ l. l ≡ present value → Told (v ∷ vs) kind name value) (is kind name v)
       (λ yes e. let b = is-both kind name v .0 (passes (is kind name v) yes) in record {
-        occurs = record { before = []; it = v; behind = vs; there = refl; same-kind = b .0; same-name = b .1 };
+        occurs = record { before = []; it = v; after = vs; there = refl; same-kind = b .0; same-name = b .1 };
         says = cc;
       })
       (λ _ e. let t = present-told vs value e in let o = t .occurs in record {
-        occurs = record { before = v ∷ o .before; it = o .it; behind = o .behind; there = ap (λ l. v ∷ l) (o .there); same-kind = o .same-kind; same-name = o .same-name };
+        occurs = record { before = v ∷ o .before; it = o .it; after = o .after; there = ap (λ l. v ∷ l) (o .there); same-kind = o .same-kind; same-name = o .same-name };
         says = t .says;
       })
 
@@ -57,25 +57,25 @@ module _ (kind : ℕ) (name : List ℕ) where
   finds vs = finds-by vs (lookup kind name vs) refl
 
   -- the first of a kind and name is the only one
-  first-found : (before : List Variable) (v : Variable) (behind : List Variable) → kind ≡ v .kind → name ≡ v .name → repeated (before ++ v ∷ behind) ≡ false
-      → lookup kind name (before ++ v ∷ behind) ≡ present (v .value)
+  first-found : (before : List Variable) (v : Variable) (after : List Variable) → kind ≡ v .kind → name ≡ v .name → repeated (before ++ v ∷ after) ≡ false
+      → lookup kind name (before ++ v ∷ after) ≡ present (v .value)
   unfolding lookup repeated
-  first-found [] v behind k n once = rw (is-true (is kind name v) (is-both kind name v .1 (k, n)))
-  first-found (w ∷ ws) v behind k n once =
-      let apart = neither (among (w .kind) (w .name) (ws ++ v ∷ behind)) (repeated (ws ++ v ∷ behind)) once in
+  first-found [] v after k n once = rw (is-true (is kind name v) (is-both kind name v .1 (k, n)))
+  first-found (w ∷ ws) v after k n once =
+      let apart = neither (among (w .kind) (w .name) (ws ++ v ∷ after)) (repeated (ws ++ v ∷ after)) once in
       choice (λ l. l ≡ present (v .value)) (is kind name w)
       (λ yes.
       let b = is-both kind name w .0 (passes (is kind name w) yes) in
-      let again : Occurs (w .kind) (w .name) (ws ++ v ∷ behind) =
-      record { before = ws; it = v; behind = behind; there = refl; same-kind = sym (b .0) ∙ k; same-name = sym (b .1) ∙ n } in
-      absurd (subst T (apart .0) (among-is-occurs (w .kind) (w .name) (ws ++ v ∷ behind) .1 again)))
-      (λ _. first-found ws v behind k n (apart .1))
+      let again : Occurs (w .kind) (w .name) (ws ++ v ∷ after) =
+      record { before = ws; it = v; after = after; there = refl; same-kind = sym (b .0) ∙ k; same-name = sym (b .1) ∙ n } in
+      absurd (subst T (apart .0) (among-is-occurs (w .kind) (w .name) (ws ++ v ∷ after) .1 again)))
+      (λ _. first-found ws v after k n (apart .1))
 
   pub told-found : (vs : List Variable) (value : List ℕ) → repeated vs ≡ false → Told vs kind name value → lookup kind name vs ≡ present value
   told-found vs value once t =
       let o = t .occurs in
       ap (lookup kind name) (o .there)
-      ∙ first-found (o .before) (o .it) (o .behind) (o .same-kind) (o .same-name) (sym (ap repeated (o .there)) ∙ once)
+      ∙ first-found (o .before) (o .it) (o .after) (o .same-kind) (o .same-name) (sym (ap repeated (o .there)) ∙ once)
       ∙ ap present (t .says)
 
   pub told-once : (vs : List Variable) (a b : List ℕ) → repeated vs ≡ false → Told vs kind name a → Told vs kind name b → a ≡ b

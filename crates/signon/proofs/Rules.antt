@@ -14,11 +14,11 @@ use borrow.Author.Tests.{eq-eqb, not-true}
 use Rattle.octets.specs.Same.{same}
 use Rattle.octets.proofs.Equality.{same-sound, same-refl}
 use Rattle.names.specs.Name.{isName, profileLimit}
-use Rattle.profile.specs.Profile.{version1, Profile, desAllowed, desToken, shaToken}
+use Rattle.profile.specs.Profile.{version1, Profile, desAllowed, storedDes, storedSha}
 use Rattle.profile.specs.Theorems.{WellFormed}
 use Rattle.password_sha.specs.Sha.{isPassword, PW-token, PW-SUB}
 use Rattle.password_check.specs.Gives.{desLength, shaLength, seedLength, areSeeds, desSubstituteOf, givesClear, givesDes, givesSha}
-use Rattle.signon.specs.Attempt.{isClear, clearPassword, desSubstitute, shaSubstitute}
+use Rattle.signon.specs.Attempt.{isClear, clearPassword, isDesSubstitute, isShaSubstitute}
 use Rattle.signon.specs.Theorems.{zeroSeed, BySubstitute, ByPassword}
 
 -- a test that cannot hold does not
@@ -61,14 +61,14 @@ module _ (p : Profile) (formed : WellFormed version1 p) (user : List ℕ) (good 
     clear-says t =
         let c = and-yes (isClear seed) _ t in
         let g = and-yes (isPassword value) _ (and-yes (isName profileLimit user) _ (c .1) .1) in
-        record { seed = clear-seed seed (c .0); password = g .0; gives = same-sound (PW-token user value) (shaToken p) (g .1) }
+        record { seed = clear-seed seed (c .0); password = g .0; gives = same-sound (PW-token user value) (storedSha p) (g .1) }
 
     pub clear-said : ByPassword user seed value p → T (clearPassword user seed value p)
     unfolding clearPassword givesClear
     clear-said b =
         yes-and (isClear seed) _ (seed-clear seed (b .seed))
         (yes-and (isName profileLimit user) _ (passes (isName profileLimit user) good)
-        (yes-and (isPassword value) _ (b .password) (same-equal (PW-token user value) (shaToken p) (b .gives))))
+        (yes-and (isPassword value) _ (b .password) (same-equal (PW-token user value) (storedSha p) (b .gives))))
 
     module _ (serverSeed : List ℕ) (eight : length serverSeed ≡ seedLength) where
       -- what both substitutes ask, besides the token's own length
@@ -97,41 +97,41 @@ module _ (p : Profile) (formed : WellFormed version1 p) (user : List ℕ) (good 
           (passes (eqb (length serverSeed) seedLength) (eq-eqb _ _ eight)) (passes (eqb (length seed) seedLength) (eq-eqb _ _ (g .length))))
           (yes-and (isName profileLimit user) _ (passes (isName profileLimit user) good) (same-equal substitute value (sym (g .is))))
 
-      pub des-says : T (desSubstitute serverSeed user seed value p) → BySubstitute serverSeed user seed value p
-      unfolding desSubstitute givesDes
+      pub des-says : T (isDesSubstitute serverSeed user seed value p) → BySubstitute serverSeed user seed value p
+      unfolding isDesSubstitute givesDes
       des-says t =
           let c = and-yes (not (isClear seed)) _ t in
           let d = and-yes (desAllowed p) _ (c .1) in
-          let g = asked-says (desSubstituteOf (desToken p) user serverSeed seed) (not-yes (isClear seed) (c .0))
-          (and-yes (eqb (length (desToken p)) desLength) _ (d .1) .1) in
+          let g = asked-says (desSubstituteOf (storedDes p) user serverSeed seed) (not-yes (isClear seed) (c .0))
+          (and-yes (eqb (length (storedDes p)) desLength) _ (d .1) .1) in
           record { seed = g .length; notZero = g .notZero; gives = inl (d .0, g .is) }
 
-      pub sha-says : T (shaSubstitute serverSeed user seed value p) → BySubstitute serverSeed user seed value p
-      unfolding shaSubstitute givesSha
+      pub sha-says : T (isShaSubstitute serverSeed user seed value p) → BySubstitute serverSeed user seed value p
+      unfolding isShaSubstitute givesSha
       sha-says t =
           let c = and-yes (not (isClear seed)) _ t in
-          let g = asked-says (PW-SUB (shaToken p) serverSeed seed user) (not-yes (isClear seed) (c .0))
-          (and-yes (eqb (length (shaToken p)) shaLength) _ (c .1) .1) in
+          let g = asked-says (PW-SUB (storedSha p) serverSeed seed user) (not-yes (isClear seed) (c .0))
+          (and-yes (eqb (length (storedSha p)) shaLength) _ (c .1) .1) in
           record { seed = g .length; notZero = g .notZero; gives = inr (g .is) }
 
-      des-said : length seed ≡ seedLength → (seed ≡ zeroSeed → ⊥) → T (desAllowed p) → value ≡ desSubstituteOf (desToken p) user serverSeed seed
-          → T (desSubstitute serverSeed user seed value p)
-      unfolding desSubstitute givesDes
+      des-said : length seed ≡ seedLength → (seed ≡ zeroSeed → ⊥) → T (desAllowed p) → value ≡ desSubstituteOf (storedDes p) user serverSeed seed
+          → T (isDesSubstitute serverSeed user seed value p)
+      unfolding isDesSubstitute givesDes
       des-said l z d e =
           yes-and (not (isClear seed)) _ (yes-not (isClear seed) (other-seed seed l z))
           (yes-and (desAllowed p) _ d
-          (yes-and (eqb (length (desToken p)) desLength) _ (passes (eqb (length (desToken p)) desLength) (eq-eqb _ _ (token-length 0)))
-          (said-asked (desSubstituteOf (desToken p) user serverSeed seed) (record { length = l; notZero = z; is = e }))))
+          (yes-and (eqb (length (storedDes p)) desLength) _ (passes (eqb (length (storedDes p)) desLength) (eq-eqb _ _ (token-length 0)))
+          (said-asked (desSubstituteOf (storedDes p) user serverSeed seed) (record { length = l; notZero = z; is = e }))))
 
-      sha-said : length seed ≡ seedLength → (seed ≡ zeroSeed → ⊥) → value ≡ PW-SUB (shaToken p) serverSeed seed user
-          → T (shaSubstitute serverSeed user seed value p)
-      unfolding shaSubstitute givesSha
+      sha-said : length seed ≡ seedLength → (seed ≡ zeroSeed → ⊥) → value ≡ PW-SUB (storedSha p) serverSeed seed user
+          → T (isShaSubstitute serverSeed user seed value p)
+      unfolding isShaSubstitute givesSha
       sha-said l z e =
           yes-and (not (isClear seed)) _ (yes-not (isClear seed) (other-seed seed l z))
-          (yes-and (eqb (length (shaToken p)) shaLength) _ (passes (eqb (length (shaToken p)) shaLength) (eq-eqb _ _ (token-length 1)))
-          (said-asked (PW-SUB (shaToken p) serverSeed seed user) (record { length = l; notZero = z; is = e })))
+          (yes-and (eqb (length (storedSha p)) shaLength) _ (passes (eqb (length (storedSha p)) shaLength) (eq-eqb _ _ (token-length 1)))
+          (said-asked (PW-SUB (storedSha p) serverSeed seed user) (record { length = l; notZero = z; is = e })))
 
       pub substitute-said : BySubstitute serverSeed user seed value p
-          → T (desSubstitute serverSeed user seed value p) ⊎ T (shaSubstitute serverSeed user seed value p)
+          → T (isDesSubstitute serverSeed user seed value p) ⊎ T (isShaSubstitute serverSeed user seed value p)
       substitute-said b =
           ⊎-elim (λ d. inl (des-said (b .seed) (b .notZero) (d .0) (d .1))) (λ e. inr (sha-said (b .seed) (b .notZero) e)) (b .gives)

@@ -21,20 +21,20 @@ use Rattle.profile.proofs.Members.{lookup-is-membership}
 use Rattle.password_check.specs.Gives.{seedLength}
 use Rattle.signon.specs.declared.Verdict.{Verdict}
 use Rattle.signon.specs.declared.Verdict.the-variants.{Panel, NotKnown, Disabled, Failed, Grant}
-use Rattle.signon.specs.Attempt.{USER, IBMRSEED, IBMSUBSPW, Attempt, attempt, clearPassword, desSubstitute, shaSubstitute}
+use Rattle.signon.specs.Attempt.{USER, IBMRSEED, IBMSUBSPW, Attempt, attempt, clearPassword, isDesSubstitute, isShaSubstitute}
 use Rattle.signon.specs.Verdict.{firstOf, grantConditions, profileConditions, conditions, verdictOf}
 use Rattle.signon.specs.Theorems.{Told, Named, BySubstitute, ByPassword, Granted, OneTold, NoneNamed, NamedWith, Sentence}
 use Rattle.signon.proofs.Lookups.{Finds, finds, told-once}
 use Rattle.signon.proofs.Rules.{clear-says, clear-said, des-says, sha-says, substitute-said}
 
 -- a profile among ascending ones is well-formed
-pub formed-in : (s : Shape) (before : List ℕ) (l : List Profile) (p : Profile) (behind : List Profile) → Ascending s before (l ++ p ∷ behind) → WellFormed s p
-formed-in s before [] p behind asc = asc .0
-formed-in s before (q ∷ l) p behind asc = formed-in s (q .name) l p behind (asc .1 .1)
+pub formed-in : (s : Shape) (before : List ℕ) (l : List Profile) (p : Profile) (after : List Profile) → Ascending s before (l ++ p ∷ after) → WellFormed s p
+formed-in s before [] p after asc = asc .0
+formed-in s before (q ∷ l) p after asc = formed-in s (q .name) l p after (asc .1 .1)
 
 module _ (seed : List ℕ) (eight : length seed ≡ seedLength) (ps : List Profile) (asc : Ascending version1 [] ps) (vs : List Variable) (once : repeated vs ≡ false) where
   formed : (p : Profile) → Occurs p ps → WellFormed version1 p
-  formed p o = formed-in version1 [] (o .before) p (o .behind) (subst (Ascending version1 []) (o .there) asc)
+  formed p o = formed-in version1 [] (o .before) p (o .after) (subst (Ascending version1 []) (o .there) asc)
 
   -- a profile that is named has a name
   named-good : (user : List ℕ) (p : Profile) → Named ps vs user p → isName profileLimit user ≡ true
@@ -95,10 +95,10 @@ module _ (seed : List ℕ) (eight : length seed ≡ seedLength) (ps : List Profi
           let f = formed p (n .occurs) in
           choice (Sentence seed ps vs) (clearPassword u s o p)
           (λ t. grants (inr (clear-says p f u good s o (passes (clearPassword u s o p) t))))
-          (λ noClear. choice (Sentence seed ps vs) (desSubstitute seed u s o p)
-          (λ t. grants (inl (des-says p f u good s o seed eight (passes (desSubstitute seed u s o p) t))))
-          (λ noDes. choice (Sentence seed ps vs) (shaSubstitute seed u s o p)
-          (λ t. grants (inl (sha-says p f u good s o seed eight (passes (shaSubstitute seed u s o p) t))))
+          (λ noClear. choice (Sentence seed ps vs) (isDesSubstitute seed u s o p)
+          (λ t. grants (inl (des-says p f u good s o seed eight (passes (isDesSubstitute seed u s o p) t))))
+          (λ noDes. choice (Sentence seed ps vs) (isShaSubstitute seed u s o p)
+          (λ t. grants (inl (sha-says p f u good s o seed eight (passes (isShaSubstitute seed u s o p) t))))
           (λ noSha. fails (λ g. ⊎-elim
           (λ b. ⊎-elim (λ d. subst T noDes d) (λ h. subst T noSha h) (substitute-said p f u good s o seed eight b))
           (λ b. subst T noClear (clear-said p f u good s o b))

@@ -7,7 +7,7 @@ use Rattle.octets.specs.Ascii.{ascii}
 use Rattle.octets.specs.Same.{same}
 use Rattle.env.specs.Variable.{Variable, VAR, USERVAR, Lookup, absent, present, lookup, valueOr}
 use Rattle.names.specs.Name.{raised}
-use Rattle.profile.specs.Profile.{Profile, desAllowed, desToken, shaToken}
+use Rattle.profile.specs.Profile.{Profile, desAllowed, storedDes, storedSha}
 use Rattle.profile.specs.Lookup.{ProfileLookup, noProfile, oneProfile, profileNamed}
 use Rattle.password_check.specs.Gives.{givesClear, givesDes, givesSha}
 
@@ -56,17 +56,17 @@ isClear seed = same seed [] || same seed (replicate 8 0)
 
 -- "the value is a clear password whose SHA-1 token is stored"
 unfoldable pub clearPassword : List ℕ → List ℕ → List ℕ → Profile → Bool
-clearPassword user seed value p = isClear seed && givesClear user value (shaToken p)
+clearPassword user seed value p = isClear seed && givesClear user value (storedSha p)
 
 -- "Seed of 8 other bytes: an 8-byte value is the DES substitute and DES is allowed,
-unfoldable pub desSubstitute : List ℕ → List ℕ → List ℕ → List ℕ → Profile → Bool
-desSubstitute serverSeed user seed value p = not (isClear seed) && (desAllowed p && givesDes (desToken p) user serverSeed seed value)
+unfoldable pub isDesSubstitute : List ℕ → List ℕ → List ℕ → List ℕ → Profile → Bool
+isDesSubstitute serverSeed user seed value p = not (isClear seed) && (desAllowed p && givesDes (storedDes p) user serverSeed seed value)
 
 -- or a 20-byte value is the SHA-1 substitute."
-unfoldable pub shaSubstitute : List ℕ → List ℕ → List ℕ → List ℕ → Profile → Bool
-shaSubstitute serverSeed user seed value p = not (isClear seed) && givesSha (shaToken p) user serverSeed seed value
+unfoldable pub isShaSubstitute : List ℕ → List ℕ → List ℕ → List ℕ → Profile → Bool
+isShaSubstitute serverSeed user seed value p = not (isClear seed) && givesSha (storedSha p) user serverSeed seed value
 
 -- one of the two rules holds
 unfoldable pub isProved : List ℕ → List ℕ → List ℕ → List ℕ → Profile → Bool
 isProved serverSeed user seed value p =
-    clearPassword user seed value p || (desSubstitute serverSeed user seed value p || shaSubstitute serverSeed user seed value p)
+    clearPassword user seed value p || (isDesSubstitute serverSeed user seed value p || isShaSubstitute serverSeed user seed value p)

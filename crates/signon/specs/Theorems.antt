@@ -13,7 +13,7 @@ use Rattle.env.specs.Theorems as Env
 use Rattle.env.specs.Read as Read
 use Rattle.names.specs.Name.{raised}
 use Rattle.profile.specs.Profile as Profiles
-use Rattle.profile.specs.Profile.{Profile, desAllowed, desToken, shaToken}
+use Rattle.profile.specs.Profile.{Profile, desAllowed, storedDes, storedSha}
 use Rattle.profile.specs.Table.{profiles, tableOf}
 use Rattle.profile.specs.Theorems.{Occurs}
 use Rattle.password_sha.specs.Sha.{isPassword, PW-token, PW-SUB}
@@ -47,13 +47,13 @@ zeroSeed = replicate seedLength 0
 pub record BySubstitute (serverSeed user clientSeed offered : List ℕ) (p : Profile) : Type 0 where
   pub seed : length clientSeed ≡ seedLength
   pub notZero : clientSeed ≡ zeroSeed → ⊥
-  pub gives : (T (desAllowed p) × (offered ≡ desSubstituteOf (desToken p) user serverSeed clientSeed)) ⊎ (offered ≡ PW-SUB (shaToken p) serverSeed clientSeed user)
+  pub gives : (T (desAllowed p) × (offered ≡ desSubstituteOf (storedDes p) user serverSeed clientSeed)) ⊎ (offered ≡ PW-SUB (storedSha p) serverSeed clientSeed user)
 
 -- "with that seed empty or zero, a clear password gives its stored token"
 pub record ByPassword (user clientSeed offered : List ℕ) (p : Profile) : Type 0 where
   pub seed : (clientSeed ≡ []) ⊎ (clientSeed ≡ zeroSeed)
   pub password : T (isPassword offered)
-  pub gives : PW-token user offered ≡ shaToken p
+  pub gives : PW-token user offered ≡ storedSha p
 
 -- "Sign-on is granted exactly when the named profile is enabled and either its token .. or .. a clear password .."
 pub record Granted (serverSeed : List ℕ) (ps : List Profile) (vs : List Variable) : Type 0 where

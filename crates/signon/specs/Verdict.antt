@@ -16,7 +16,7 @@ use Rattle.signon.specs.declared.Verdict.{Verdict}
 use Rattle.signon.specs.declared.Verdict.the-variants.{Panel, NotKnown, Disabled, Failed, Grant}
 use Rattle.signon.specs.declared.Answer.{Answer}
 use Rattle.signon.specs.declared.Answer.the-variants.{Given, Refused}
-use Rattle.signon.specs.Attempt.{Attempt, attempt, isPresent, ofProfile, clearPassword, desSubstitute, shaSubstitute}
+use Rattle.signon.specs.Attempt.{Attempt, attempt, isPresent, ofProfile, clearPassword, isDesSubstitute, isShaSubstitute}
 
 -- a condition and its verdict
 pub record Rule : Type 0 where
@@ -42,8 +42,8 @@ proves rule a =
 unfoldable pub grantConditions : Attempt → List Rule
 grantConditions a =
     (proves clearPassword a gives Grant)
-    ∷ (proves (desSubstitute (a .serverSeed)) a gives Grant)
-    ∷ (proves (shaSubstitute (a .serverSeed)) a gives Grant)
+    ∷ (proves (isDesSubstitute (a .serverSeed)) a gives Grant)
+    ∷ (proves (isShaSubstitute (a .serverSeed)) a gives Grant)
     ∷ []
 
 -- "0002, if VAR USER is absent, no valid name, or not in the table; 0003, not enabled;"

@@ -8,9 +8,9 @@ use lib.ListN.{length, replicate}
 use Rattle.octets.specs.Choice.{if_then_else_}
 use Rattle.octets.specs.Same.{same}
 use Rattle.octets.proofs.Equality.{same-differ}
-use Rattle.profile.specs.Profile.{Profile, desAllowed, desToken, shaToken}
+use Rattle.profile.specs.Profile.{Profile, desAllowed, storedDes, storedSha}
 use Rattle.password_check.specs.Gives.{givesClear, givesDes, givesSha}
-use Rattle.signon.specs.Attempt.{isClear, clearPassword, desSubstitute, shaSubstitute, isProved}
+use Rattle.signon.specs.Attempt.{isClear, clearPassword, isDesSubstitute, isShaSubstitute, isProved}
 
 -- clear seeds
 pub empty-clear : (seed : List ℕ) → length seed ≡ 0 → isClear seed ≡ true
@@ -28,9 +28,9 @@ or-none false = refl
 
 -- what is proved, by the outcomes of the first two tests
 pub proved-by : (s user seed offered : List ℕ) (p : Profile) (clear des : Bool)
-    → isClear seed ≡ clear → (desAllowed p && givesDes (desToken p) user s seed offered) ≡ des
-    → (if clear then givesClear user offered (shaToken p) else if des then true else givesSha (shaToken p) user s seed offered) ≡ isProved s user seed offered p
-unfolding isProved clearPassword desSubstitute shaSubstitute
-proved-by s user seed offered p true des c d = rw (c, or-none (givesClear user offered (shaToken p)))
+    → isClear seed ≡ clear → (desAllowed p && givesDes (storedDes p) user s seed offered) ≡ des
+    → (if clear then givesClear user offered (storedSha p) else if des then true else givesSha (storedSha p) user s seed offered) ≡ isProved s user seed offered p
+unfolding isProved clearPassword isDesSubstitute isShaSubstitute
+proved-by s user seed offered p true des c d = rw (c, or-none (givesClear user offered (storedSha p)))
 proved-by s user seed offered p false true c d = rw (c, d)
 proved-by s user seed offered p false false c d = rw (c, d)

@@ -3,7 +3,7 @@
 ghost use mathlib.Core.Bool.{_&&_};
 ghost use mathlib.Core.Path.{_≡_};
 ghost use lib.ListN.{drop};
-ghost use Rattle.profile.specs.Profile.{version1, desAllowed, desToken};
+ghost use Rattle.profile.specs.Profile.{version1, desAllowed, storedDes};
 ghost use Rattle.profile.specs.Table.{profileAt};
 ghost use Rattle.password_check.specs.Gives.{givesDes};
 ghost use Rattle.signon.specs.Attempt.{isClear, isProved};
@@ -29,7 +29,7 @@ fn des_proved(
 ) -> bool
     ensures { λ r. ⌜
         r ≡ (desAllowed (profileAt version1 (drop at (now (table .entry))))
-        && givesDes (desToken (profileAt version1 (drop at (now (table .entry))))) (now (user .entry)) (now («server_seed» .entry)) (now (seed .entry)) (now (offered .entry)))
+        && givesDes (storedDes (profileAt version1 (drop at (now (table .entry))))) (now (user .entry)) (now («server_seed» .entry)) (now (seed .entry)) (now (offered .entry)))
         ⌝ }
 {
     if !profile_tokens::des_allowed(table, at) {

@@ -10,7 +10,7 @@ use Rattle.octets.specs.Bytes.{Bytes}
 use Rattle.octets.specs.Choice.{if_then_else_}
 use Rattle.env.specs.Variable.{Variable, VAR, USERVAR, Lookup, absent, present, lookup, valueOr}
 use Rattle.env.specs.Read.{says, notRead}
-use Rattle.env.specs.Numbers.{held}
+use Rattle.env.specs.Numbers.{variablesHeld}
 use Rattle.env_records.specs.declared.ValuePlace.{ValuePlace}
 use Rattle.env_records.specs.Records.{placeOf}
 use Rattle.env_records.specs.Theorems.{valueAt}
@@ -32,14 +32,14 @@ use Rattle.profile_table.specs.Theorems.{standing, Tells}
 use Rattle.profile_table.proofs.Meaning.{found-is-named}
 use Rattle.signon.specs.declared.Verdict.the-variants.{Panel, NotKnown, Disabled, Failed, Grant}
 use Rattle.signon.specs.declared.Answer.the-variants.{Given, Refused}
-use Rattle.signon.specs.Attempt.{USER, IBMRSEED, IBMSUBSPW, Attempt, attempt, isPresent, clearPassword, desSubstitute, shaSubstitute, isProved}
+use Rattle.signon.specs.Attempt.{USER, IBMRSEED, IBMSUBSPW, Attempt, attempt, isPresent, clearPassword, isDesSubstitute, isShaSubstitute, isProved}
 use Rattle.signon.specs.Verdict.{firstOf, grantConditions, profileConditions, conditions, verdictOf, answerBy}
 use Rattle.signon.proofs.Sentences.{formed-in}
-use Rattle.signon_verdict.specs.near.Decisions.{userOf, seedOf, offeredOf, isPanel, unknownVerdict, knownVerdict}
+use Rattle.signon_verdict.specs.internal.Decisions.{userOf, seedOf, offeredOf, isPanel, unknownVerdict, knownVerdict}
 
 -- whether a variable is there, by the place of its value
 pub there-by : (kind : ℕ) (name bytes numbers : List ℕ) (p q : ValuePlace) → p ≡ placeOf kind name bytes numbers → p ≡ q
-    → isPresent (valueAt bytes q) ≡ isPresent (lookup kind name (held bytes numbers))
+    → isPresent (valueAt bytes q) ≡ isPresent (lookup kind name (variablesHeld bytes numbers))
 there-by kind name bytes numbers p q e told = ap isPresent (ap (valueAt bytes) (sym told ∙ e) ∙ finds-the-value kind name bytes numbers)
 
 -- three conditions for GRANT that ask for both USERVARs
@@ -82,7 +82,7 @@ known seed vs p there good =
     let o = offeredOf vs in
     rw (there, good)
     (ap (λ v. if isPanel vs then Panel else if not (enabled p) then Disabled else v)
-    (granted-once (isPresent (lookup USERVAR IBMRSEED vs)) (isPresent (lookup USERVAR IBMSUBSPW vs)) (clearPassword u s o p) (desSubstitute seed u s o p) (shaSubstitute seed u s o p)))
+    (granted-once (isPresent (lookup USERVAR IBMRSEED vs)) (isPresent (lookup USERVAR IBMSUBSPW vs)) (clearPassword u s o p) (isDesSubstitute seed u s o p) (isShaSubstitute seed u s o p)))
 
 -- a user whose profile was found is there, and is a name
 user-good : (l : Lookup) → isRaisedName profileLimit (raised (valueOr [] l)) ≡ true → (isPresent l ≡ true) × (isName profileLimit (valueOr [] l) ≡ true)
@@ -113,7 +113,7 @@ module _ (seed table : List ℕ) (vs : List Variable) (bytes : Bytes table) wher
         let p = standing table (d .at) in
         let asc = tables-written-back table ps bytes e .1 .0 in
         let m = lookup-is-membership version1 [] ps asc name p .0 (t .0) in
-        let formed = formed-in version1 [] (m .0 .before) p (m .0 .behind) (subst (Ascending version1 []) (m .0 .there) asc) in
+        let formed = formed-in version1 [] (m .0 .before) p (m .0 .after) (subst (Ascending version1 []) (m .0 .there) asc) in
         let raisedName : isRaisedName profileLimit name ≡ true =
         is-true (isRaisedName profileLimit name) (subst (λ l. T (isRaisedName profileLimit l)) (sym (m .1)) (formed .name)) in
         let u = user-good (lookup VAR USER vs) raisedName in

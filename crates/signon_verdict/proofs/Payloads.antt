@@ -6,7 +6,7 @@ use Prim.Native.Nat.{ℕ, _*_, _≤_}
 use native.Mathlib.Omega.{arith}
 use lib.ListN.{take, replicate}
 use Rattle.env.specs.Read.{Reading, says, notRead, readingOf}
-use Rattle.env.specs.Numbers.{recordWidth, held}
+use Rattle.env.specs.Numbers.{recordWidth, variablesHeld}
 use Rattle.env.proofs.Short.{Fitting, reading-fitting}
 use Rattle.env.proofs.Sound.{Reads, reads}
 use Rattle.env_delivery.specs.declared.Answer.{Answer}
@@ -39,6 +39,6 @@ module _ (payload : List ℕ) (a : Answer) (bytes numbers : List ℕ) (h : deliv
   pub within : (b : Answer) → a ≡ b → Within payload b
   within b e = subst (Within payload) (sym (ap (λ d. d .answer) h) ∙ e) (within-by payload (readingOf payload) refl)
 
-  pub said : (first count used : ℕ) → a ≡ Read first count used → readingOf payload ≡ says first (held (take used bytes) (take (recordWidth * count) numbers))
+  pub said : (first count used : ℕ) → a ≡ Read first count used → readingOf payload ≡ says first (variablesHeld (take used bytes) (take (recordWidth * count) numbers))
   said first count used e =
       rw (ap (λ d. d .bytes) h, ap (λ d. d .numbers) h) (read-is-held payload roomBytes roomNumbers first count used (sym (ap (λ d. d .answer) h) ∙ e))

@@ -6,17 +6,19 @@ ghost use mathlib.Core.List.{List};
 ghost use Prim.Native.Nat.{ℕ};
 ghost use lib.ListN.{drop};
 ghost use Rattle.env.specs.Variable.{lookup};
-ghost use Rattle.env.specs.Numbers.{held};
+ghost use Rattle.env.specs.Numbers.{variablesHeld};
 ghost use Rattle.env.specs.Read.{says, notRead};
 ghost use Rattle.profile.specs.Profile.{version1, enabled};
 ghost use Rattle.profile.specs.Table.{profileAt, tableOf};
 ghost use Rattle.signon.specs.Attempt.{isPresent};
 ghost use Rattle.signon.specs.Verdict.{answerBy, answerOf};
-ghost use Rattle.signon_verdict.specs.near.Decisions.{userOf, seedOf, offeredOf, seedGiven, offerGiven, isPanel};
-ghost use Rattle.signon_verdict.specs.near.Decisions.{unknownVerdict, knownVerdict};
+ghost use Rattle.signon_verdict.specs.internal.Decisions.{userOf, seedOf, offeredOf, seedGiven, offerGiven, isPanel};
+ghost use Rattle.signon_verdict.specs.internal.Decisions.{unknownVerdict, knownVerdict};
 use env::LIST_LIMIT;
 use env::PAYLOAD_LIMIT;
 use env::RECORD_WIDTH;
+use env::USERVAR_KIND;
+use env::VAR_KIND;
 use env_records::ValuePlace;
 use profile_table::Entry;
 use profile_table::Found;
@@ -24,14 +26,9 @@ use profile_table::TableCheck;
 use signon::Answer;
 use signon::Verdict;
 
-// The kinds of variables.
-const VAR: usize = 0;
-
-const USERVAR: usize = 3;
-
 // Whether a variable of a kind and name is there.
 fn is_there(bytes: &[u8], numbers: &[usize], kind: usize, name: &[u8]) -> bool
-    ensures { λ r. ⌜ r ≡ isPresent (lookup kind (now (name .entry)) (held (now (bytes .entry)) (now (numbers .entry)))) ⌝ }
+    ensures { λ r. ⌜ r ≡ isPresent (lookup kind (now (name .entry)) (variablesHeld (now (bytes .entry)) (now (numbers .entry)))) ⌝ }
 {
     match env_records::find(bytes, numbers, kind, name) {
         ValuePlace::Absent => false,
@@ -40,38 +37,38 @@ fn is_there(bytes: &[u8], numbers: &[usize], kind: usize, name: &[u8]) -> bool
 }
 
 fn seed_given(bytes: &[u8], numbers: &[usize]) -> bool
-    ensures { λ r. ⌜ r ≡ seedGiven (held (now (bytes .entry)) (now (numbers .entry))) ⌝ }
+    ensures { λ r. ⌜ r ≡ seedGiven (variablesHeld (now (bytes .entry)) (now (numbers .entry))) ⌝ }
 {
-    is_there(bytes, numbers, USERVAR, b"IBMRSEED")
+    is_there(bytes, numbers, USERVAR_KIND, b"IBMRSEED")
 }
 
 fn offer_given(bytes: &[u8], numbers: &[usize]) -> bool
-    ensures { λ r. ⌜ r ≡ offerGiven (held (now (bytes .entry)) (now (numbers .entry))) ⌝ }
+    ensures { λ r. ⌜ r ≡ offerGiven (variablesHeld (now (bytes .entry)) (now (numbers .entry))) ⌝ }
 {
-    is_there(bytes, numbers, USERVAR, b"IBMSUBSPW")
+    is_there(bytes, numbers, USERVAR_KIND, b"IBMSUBSPW")
 }
 
 fn user_of<'a>(bytes: &'a [u8], numbers: &[usize]) -> &'a [u8]
-    ensures { λ r. ⌜ now r ≡ userOf (held (now (bytes .entry)) (now (numbers .entry))) ⌝ }
+    ensures { λ r. ⌜ now r ≡ userOf (variablesHeld (now (bytes .entry)) (now (numbers .entry))) ⌝ }
 {
-    env_records::value_of(bytes, numbers, VAR, b"USER")
+    env_records::value_of(bytes, numbers, VAR_KIND, b"USER")
 }
 
 fn seed_of<'a>(bytes: &'a [u8], numbers: &[usize]) -> &'a [u8]
-    ensures { λ r. ⌜ now r ≡ seedOf (held (now (bytes .entry)) (now (numbers .entry))) ⌝ }
+    ensures { λ r. ⌜ now r ≡ seedOf (variablesHeld (now (bytes .entry)) (now (numbers .entry))) ⌝ }
 {
-    env_records::value_of(bytes, numbers, USERVAR, b"IBMRSEED")
+    env_records::value_of(bytes, numbers, USERVAR_KIND, b"IBMRSEED")
 }
 
 fn offered_of<'a>(bytes: &'a [u8], numbers: &[usize]) -> &'a [u8]
-    ensures { λ r. ⌜ now r ≡ offeredOf (held (now (bytes .entry)) (now (numbers .entry))) ⌝ }
+    ensures { λ r. ⌜ now r ≡ offeredOf (variablesHeld (now (bytes .entry)) (now (numbers .entry))) ⌝ }
 {
-    env_records::value_of(bytes, numbers, USERVAR, b"IBMSUBSPW")
+    env_records::value_of(bytes, numbers, USERVAR_KIND, b"IBMSUBSPW")
 }
 
 // Whether neither USERVAR is there.
 fn is_panel(bytes: &[u8], numbers: &[usize]) -> bool
-    ensures { λ r. ⌜ r ≡ isPanel (held (now (bytes .entry)) (now (numbers .entry))) ⌝ }
+    ensures { λ r. ⌜ r ≡ isPanel (variablesHeld (now (bytes .entry)) (now (numbers .entry))) ⌝ }
 {
     if seed_given(bytes, numbers) {
         return false;
@@ -81,7 +78,7 @@ fn is_panel(bytes: &[u8], numbers: &[usize]) -> bool
 
 // The verdict where no profile was found.
 fn without_profile(bytes: &[u8], numbers: &[usize]) -> Verdict
-    ensures { λ r. ⌜ r ≡ unknownVerdict (held (now (bytes .entry)) (now (numbers .entry))) ⌝ }
+    ensures { λ r. ⌜ r ≡ unknownVerdict (variablesHeld (now (bytes .entry)) (now (numbers .entry))) ⌝ }
 {
     if is_panel(bytes, numbers) {
         return Verdict::Panel;
@@ -99,7 +96,7 @@ fn with_profile(
 ) -> Verdict
     requires { ⌜ e .enabled ≡ enabled (profileAt version1 (drop (e .at) (now table))) ⌝ }
     ensures { λ r. ⌜
-        r ≡ knownVerdict (now («server_seed» .entry)) (held (now (bytes .entry)) (now (numbers .entry))) (profileAt version1 (drop (e .at) (now (table .entry))))
+        r ≡ knownVerdict (now («server_seed» .entry)) (variablesHeld (now (bytes .entry)) (now (numbers .entry))) (profileAt version1 (drop (e .at) (now (table .entry))))
         ⌝ }
 {
     if is_panel(bytes, numbers) {
@@ -126,7 +123,7 @@ fn with_profile(
 // The answer to a payload that was read: its variables are those of the records.
 fn decide(server_seed: &[u8], table: &[u8], bytes: &[u8], numbers: &[usize]) -> Answer
     ensures { λ r. ⌜
-        r ≡ answerBy (now («server_seed» .entry)) (tableOf (now (table .entry))) (says 0 (held (now (bytes .entry)) (now (numbers .entry))))
+        r ≡ answerBy (now («server_seed» .entry)) (tableOf (now (table .entry))) (says 0 (variablesHeld (now (bytes .entry)) (now (numbers .entry))))
         ⌝ }
 {
     match profile_table::find(table, user_of(bytes, numbers)) {

@@ -10,7 +10,7 @@ use Rattle.octets.specs.Promise.{putAt, writeFront}
 use Rattle.octets.proofs.Promise.{front-short, front-fits}
 use Rattle.refusal.specs.Refusal.{noRoom, badDeviceOrSystemName}
 use Rattle.octets.proofs.Overwrite.{overwrite-nil}
-use Rattle.octets.proofs.Pieces.{put-behind}
+use Rattle.octets.proofs.Pieces.{put-after}
 use Rattle.names.specs.Ebcdic.{ebcdic, blank, ebcdicOf}
 use Rattle.names.specs.Name.{raisedByte, raised, isName, deviceLimit, systemLimit}
 use Rattle.names.specs.Padding.{filled}
@@ -20,7 +20,7 @@ use Rattle.startup.specs.Response.{codeOf, fixedFields, joined, fields, respons
 use Rattle.startup.proofs.Records.{length-ebcdic, length-code, length-fixed, length-response}
 use Rattle.startup_record.specs.declared.Written.the-variants.{Wrote, Refused}
 use Rattle.startup_record.specs.Promise.{respondInto}
-use Rattle.startup_record.specs.near.Parts.{laidOut, Fits}
+use Rattle.startup_record.specs.internal.Parts.{laidOut, Fits}
 
 -- six pieces put in a row
 pub six-put : (l h f c s d z : List ℕ) → length h ≡ 4 → length f ≡ 12 → length c ≡ 4 → length s ≡ 8 → length d ≡ 10 → length z ≡ 35 → 73 ≤ length l
@@ -33,12 +33,12 @@ six-put l h f c s d z n₁ n₂ n₃ n₄ n₅ n₆ room m₁ m₂ m₃ m₄ m�
     let k₃ : 20 ≡ length ((h ++ f) ++ c) = rw length-append (omega arith) in
     let k₄ : 28 ≡ length (((h ++ f) ++ c) ++ s) = rw length-append (omega arith) in
     let k₅ : 38 ≡ length ((((h ++ f) ++ c) ++ s) ++ d) = rw length-append (omega arith) in
-    let a₁ = put-behind l [] h 0 refl (omega arith) l m₁ r₁ (sym (overwrite-nil l 0)) h₁ in
-    let a₂ = put-behind l h f 4 (sym n₁) (omega arith) m₁ m₂ r₂ a₁ h₂ in
-    let a₃ = put-behind l (h ++ f) c 16 k₂ (omega arith) m₂ m₃ r₃ a₂ h₃ in
-    let a₄ = put-behind l ((h ++ f) ++ c) s 20 k₃ (omega arith) m₃ m₄ r₄ a₃ h₄ in
-    let a₅ = put-behind l (((h ++ f) ++ c) ++ s) d 28 k₄ (omega arith) m₄ m₅ r₅ a₄ h₅ in
-    put-behind l ((((h ++ f) ++ c) ++ s) ++ d) z 38 k₅ (omega arith) m₅ m₆ r₆ a₅ h₆
+    let a₁ = put-after l [] h 0 refl (omega arith) l m₁ r₁ (sym (overwrite-nil l 0)) h₁ in
+    let a₂ = put-after l h f 4 (sym n₁) (omega arith) m₁ m₂ r₂ a₁ h₂ in
+    let a₃ = put-after l (h ++ f) c 16 k₂ (omega arith) m₂ m₃ r₃ a₂ h₃ in
+    let a₄ = put-after l ((h ++ f) ++ c) s 20 k₃ (omega arith) m₃ m₄ r₄ a₃ h₄ in
+    let a₅ = put-after l (((h ++ f) ++ c) ++ s) d 28 k₄ (omega arith) m₄ m₅ r₅ a₄ h₅ in
+    put-after l ((((h ++ f) ++ c) ++ s) ++ d) z 38 k₅ (omega arith) m₅ m₆ r₆ a₅ h₆
 
 length-four : (code : List ℕ) → length code ≡ 4 → length (filled blank 4 (ebcdicOf code)) ≡ 4
 length-four code h =

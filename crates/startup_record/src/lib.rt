@@ -3,7 +3,7 @@ ghost use mathlib.Core.Path.{_≡_};
 ghost use Rattle.octets.specs.Lent.{outcome, overwrite};
 ghost use Rattle.startup.specs.Response.{codeOf, fixedFields};
 ghost use Rattle.startup_record.specs.Promise.{respondInto};
-ghost use Rattle.startup_record.specs.near.Parts.{laidOut, Fits};
+ghost use Rattle.startup_record.specs.internal.Parts.{laidOut, Fits};
 use signon::Verdict;
 
 // How long a record is.
@@ -93,10 +93,10 @@ pub fn response(
         outcome r (now (out .exit)) ≡ respondInto «device_fault» verdict (now (system .entry)) (now (device .entry)) (now (out .entry))
         ⌝ }
 {
-    if !names::is_name(device, 10) {
+    if !names::is_name(device, names::DEVICE_LIMIT) {
         return Written::Refused(refusal::BAD_DEVICE_OR_SYSTEM_NAME);
     }
-    if !names::is_name(system, 8) {
+    if !names::is_name(system, names::SYSTEM_LIMIT) {
         return Written::Refused(refusal::BAD_DEVICE_OR_SYSTEM_NAME);
     }
     if out.len() < RECORD_LENGTH {

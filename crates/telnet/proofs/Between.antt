@@ -24,10 +24,10 @@ same-reads : {es fs : List Event} {a b : Ending} → reads es a ≡ reads fs b �
 same-reads e = (ap (λ (r : Reading). r .events) e, ap (λ (r : Reading). r .ending) e)
 
 -- reading goes on after the first event
-pub behind-first : (bs : List ℕ) (e : Event) (es : List Event) (how : Ending) → reading bs ≡ reads (e ∷ es) how
+pub after-first : (bs : List ℕ) (e : Event) (es : List Event) (how : Ending) → reading bs ≡ reads (e ∷ es) how
     → reading (drop (length (written e)) bs) ≡ reads es how
 unfolding readOn
-behind-first bs e es how h = go (eventOf bs) (sym (unrolled bs) ∙ h)
+after-first bs e es how h = go (eventOf bs) (sym (unrolled bs) ∙ h)
   where
     go : (f : Front) → readOn bs f ≡ reads (e ∷ es) how → reading (drop (length (written e)) bs) ≡ reads es how
     go noEvent g = let both = same-reads g in cc
@@ -40,13 +40,13 @@ behind-first bs e es how h = go (eventOf bs) (sym (unrolled bs) ∙ h)
         rw (← same) rest
 
 -- and after the first events
-pub behind-all : (bs : List ℕ) (es fs : List Event) (how : Ending) → reading bs ≡ reads (es ++ fs) how
+pub after-all : (bs : List ℕ) (es fs : List Event) (how : Ending) → reading bs ≡ reads (es ++ fs) how
     → reading (drop (length (writtenAll es)) bs) ≡ reads fs how
 unfolding writtenAll
-behind-all bs [] fs how h = h
-behind-all bs (e ∷ es) fs how h =
+after-all bs [] fs how h = h
+after-all bs (e ∷ es) fs how h =
     rw (length-append, ← drop-drop (length (writtenAll es)) (length (written e)) bs)
-    (behind-all (drop (length (written e)) bs) es fs how (behind-first bs e (es ++ fs) how h))
+    (after-all (drop (length (written e)) bs) es fs how (after-first bs e (es ++ fs) how h))
 
 first-record : (es fs : List Event) (how : Ending) → T (all (λ e. not (isEndOfRecord e)) es)
     → gathered (es ++ command eor ∷ fs) how ≡ complete (allData es) (length (writtenAll es) + 2)
@@ -69,7 +69,7 @@ unfolding recordOf written
 record-is-all-data bs es fs how t h = (
   rw h (first-record es fs how t),
   rw (← drop-drop 2 (length (writtenAll es)) bs)
-      (behind-first (drop (length (writtenAll es)) bs) (command eor) fs how (behind-all bs es (command eor ∷ fs) how h)),
+      (after-first (drop (length (writtenAll es)) bs) (command eor) fs how (after-all bs es (command eor ∷ fs) how h)),
 )
 
 -- an end-of-record at the front

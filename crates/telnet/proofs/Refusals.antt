@@ -10,7 +10,7 @@ use Rattle.telnet.specs.declared.Lead.{Lead}
 use Rattle.telnet.specs.declared.Lead.the-variants.{Faulty, Opens, Negotiates, Simple}
 use Rattle.telnet.specs.Event.{lead, payloadLimit, se}
 use Rattle.telnet.specs.Write.{doubled}
-use Rattle.telnet.specs.Read.{Front, noEvent, found, refused, undoubled, closed, afterSb, afterVerb, afterLead, afterIac, runOr, eventOf}
+use Rattle.telnet.specs.Read.{Front, noEvent, found, refused, dataRun, closed, afterSb, afterVerb, afterLead, afterIac, runOr, eventOf}
 
 module _ (P : ℕ → Type 0) where
   abbrev pub FrontBy : Front → Type 0
@@ -29,8 +29,8 @@ module _ (P : ℕ → Type 0) where
     unfolding afterSb
     sb-by [] = one
     sb-by (o ∷ bs) =
-        choice FrontBy (ltb payloadLimit (length (undoubled bs))) (λ _. three)
-        (λ _. closed-by o (undoubled bs) (drop (length (doubled (undoubled bs))) bs))
+        choice FrontBy (ltb payloadLimit (length (dataRun bs))) (λ _. three)
+        (λ _. closed-by o (dataRun bs) (drop (length (doubled (dataRun bs))) bs))
 
     lead-by : (l : Lead) (c : ℕ) (bs : List ℕ) → FrontBy (afterLead l c bs)
     unfolding afterLead afterVerb
@@ -53,4 +53,4 @@ module _ (P : ℕ → Type 0) where
     pub front-by : (bs : List ℕ) → FrontBy (eventOf bs)
     unfolding eventOf
     front-by [] = tt
-    front-by (b ∷ bs) = run-by (undoubled (b ∷ bs)) (afterIac bs) (iac-by bs)
+    front-by (b ∷ bs) = run-by (dataRun (b ∷ bs)) (afterIac bs) (iac-by bs)

@@ -80,15 +80,15 @@ grown-keeps : (o : ℕ) (p : List ℕ) (b : ℕ) (l : List ℕ) → iac ∷ sb �
 unfolding grown held writtenAll
 grown-keeps o p b l e = choice (Keeps l) (ltb (length p) payloadLimit) (λ _. keeps e) (λ _. fails)
 
-behind-run : (r : List ℕ) (c k : ℕ) → c ≡ k → writtenAll (ended r) ++ iac ∷ k ∷ [] ≡ doubled r ++ iac ∷ [] ++ c ∷ []
-behind-run r c k e = rw (written-ended, append-snoc, e)
+after-run : (r : List ℕ) (c k : ℕ) → c ≡ k → writtenAll (ended r) ++ iac ∷ k ∷ [] ≡ doubled r ++ iac ∷ [] ++ c ∷ []
+after-run r c k e = rw (written-ended, append-snoc, e)
 
 leads-keeps : (r : List ℕ) (l : Lead) (c : ℕ) → Coded c l → Keeps (doubled r ++ iac ∷ [] ++ c ∷ []) (leads (ended r) l c)
 unfolding leads held writtenAll written doubled
 leads-keeps r Faulty c none-faulty = fails
-leads-keeps r Simple c none-simple = keeps (append-nil _ ∙ written-append (ended r) (command c ∷ []) ∙ behind-run r c c refl)
-leads-keeps r Opens c (code-opens e) = keeps (behind-run r c sb e)
-leads-keeps r (Negotiates v) c (code-negotiates e) = keeps (behind-run r c (code v) e)
+leads-keeps r Simple c none-simple = keeps (append-nil _ ∙ written-append (ended r) (command c ∷ []) ∙ after-run r c c refl)
+leads-keeps r Opens c (code-opens e) = keeps (after-run r c sb e)
+leads-keeps r (Negotiates v) c (code-negotiates e) = keeps (after-run r c (code v) e)
 
 step-keeps : (m : Mode) (b : ℕ) → Keeps (held m ++ b ∷ []) (stepByte m b)
 unfolding stepByte held writtenAll written doubled
@@ -174,11 +174,11 @@ stopped-before (command c) bs n w = at-command refl (simple-is-not c w iac tt)
 stopped-before (negotiation v o) bs n w = at-command refl (verb-is-not-iac v)
 stopped-before (subnegotiation o p) bs n w = at-command refl refl
 
-stopped-behind : (e : Event) (es : List Event) → T (isRun e) → T (separate (e ∷ es)) → T (all writable es)
+stopped-after : (e : Event) (es : List Event) → T (isRun e) → T (separate (e ∷ es)) → T (all writable es)
     → Stopped (writtenAll es)
 unfolding separate all writtenAll
-stopped-behind e [] r s w = at-end
-stopped-behind e (f ∷ es) r s w =
+stopped-after e [] r s w = at-end
+stopped-after e (f ∷ es) r s w =
     stopped-before f (writtenAll es) (other (isRun e) (isRun f) r (and-yes (not (isRun e && isRun f)) _ s .0)) (and-yes (writable f) _ w .0)
   where
     other : (t u : Bool) → T t → T (not (t && u)) → T (not u)
@@ -206,4 +206,4 @@ unfolding all writtenAll reading readingFrom stops ended
 reads-back [] w s = refl
 reads-back (e ∷ es) w s =
     let u = and-yes (writable e) (all writable es) w in
-    rw (reads-back es (u .1) (apart e es s)) at (read-first e (writtenAll es) (u .0) (λ r. stopped-behind e es r s (u .1)))
+    rw (reads-back es (u .1) (apart e es s)) at (read-first e (writtenAll es) (u .0) (λ r. stopped-after e es r s (u .1)))

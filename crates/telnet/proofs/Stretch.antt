@@ -11,7 +11,7 @@ use lib.ListN.{length, drop, length-append}
 use lib.Seq.{append-snoc, drop-append-seam}
 use Rattle.telnet.specs.Event.{Event, iac, payloadLimit}
 use Rattle.telnet.specs.Write.{doubled}
-use Rattle.telnet.specs.Read.{undoubled}
+use Rattle.telnet.specs.Read.{dataRun}
 use Rattle.telnet.specs.Whole.{Mode, data′, iacSeen, payload, closing, goes, stepByte, grown, before, readingFrom}
 use Rattle.octets.specs.Choice.{if_then_else_}
 
@@ -23,7 +23,7 @@ pub data Stopped : List ℕ → Type 0 where
 
 pub record Stretched (bs : List ℕ) : Type 0 where
   pub rest : List ℕ
-  pub whole : bs ≡ doubled (undoubled bs) ++ rest
+  pub whole : bs ≡ doubled (dataRun bs) ++ rest
   pub stopped : Stopped rest
 
 pub doubled-other : (b : ℕ) (d : List ℕ) → eqb b iac ≡ false → doubled (b ∷ d) ≡ b ∷ doubled d
@@ -55,27 +55,27 @@ doubled-append (b ∷ c) d = go (eqb b iac) (doubled-append c d)
     go false e = rw e
 
 longer : (b : ℕ) (bs : List ℕ) → eqb b iac ≡ false → Stretched bs → Stretched (b ∷ bs)
-unfolding undoubled
+unfolding dataRun
 longer b bs e s = record {
   rest = s .rest;
-  whole = rw (e, doubled-other b (undoubled bs) e) (ap (λ l. b ∷ l) (s .whole));
+  whole = rw (e, doubled-other b (dataRun bs) e) (ap (λ l. b ∷ l) (s .whole));
   stopped = s .stopped;
 }
 
 longer-by-two : (b c : ℕ) (bs : List ℕ) → eqb b iac ≡ true → eqb c iac ≡ true → Stretched bs → Stretched (b ∷ c ∷ bs)
-unfolding undoubled
+unfolding dataRun
 longer-by-two b c bs e f s = record {
   rest = s .rest;
-  whole = rw (e, f, doubled-iac c (undoubled bs) f) (cc (eqb-true b iac e, eqb-true c iac f, s .whole));
+  whole = rw (e, f, doubled-iac c (dataRun bs) f) (cc (eqb-true b iac e, eqb-true c iac f, s .whole));
   stopped = s .stopped;
 }
 
-stops-here : (bs : List ℕ) → undoubled bs ≡ [] → Stopped bs → Stretched bs
+stops-here : (bs : List ℕ) → dataRun bs ≡ [] → Stopped bs → Stretched bs
 unfolding doubled
 stops-here bs e s = record { rest = bs; whole = rw e; stopped = s }
 
 pub stretch : (bs : List ℕ) → Stretched bs
-unfolding undoubled
+unfolding dataRun
 stretch [] = stops-here [] refl at-end
 stretch (b ∷ []) = go (eqb b iac) refl
   where
@@ -90,8 +90,8 @@ stretch (b ∷ c ∷ bs) = go (eqb b iac) refl (eqb c iac) refl (stretch (c ∷ 
     go true e false f s s′ = stops-here (b ∷ c ∷ bs) (rw (e, f)) (at-command e f)
 
 -- the bytes after a stretch are the rest
-pub after-stretch : (bs : List ℕ) (s : Stretched bs) → drop (length (doubled (undoubled bs))) bs ≡ s .rest
-after-stretch bs s = ap (drop (length (doubled (undoubled bs)))) (s .whole) ∙ drop-append-seam (doubled (undoubled bs)) (s .rest)
+pub after-stretch : (bs : List ℕ) (s : Stretched bs) → drop (length (doubled (dataRun bs))) bs ≡ s .rest
+after-stretch bs s = ap (drop (length (doubled (dataRun bs)))) (s .whole) ∙ drop-append-seam (doubled (dataRun bs)) (s .rest)
 
 pub one-step : (m : Mode) (b : ℕ) (bs : List ℕ) {es : List Event} {m′ : Mode} → stepByte m b ≡ goes es m′
     → readingFrom m (b ∷ bs) ≡ before es (readingFrom m′ bs)

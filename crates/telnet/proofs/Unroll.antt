@@ -14,7 +14,7 @@ use Rattle.telnet.specs.declared.Lead.{Lead}
 use Rattle.telnet.specs.declared.Lead.the-variants.{Faulty, Opens, Negotiates, Simple}
 use Rattle.telnet.specs.Event.{subnegotiation, lead, iac, se, payloadLimit}
 use Rattle.telnet.specs.Write.{doubled, written}
-use Rattle.telnet.specs.Read.{undoubled, found, refused, closed, afterSb, afterVerb, afterLead, afterIac, runOr, eventOf}
+use Rattle.telnet.specs.Read.{dataRun, found, refused, closed, afterSb, afterVerb, afterLead, afterIac, runOr, eventOf}
 use Rattle.telnet.specs.Whole.{refusal, data′, iacSeen, opening, payload, failed, Step, goes, ended, leads, grown, stepByte, stops}
 use Rattle.telnet.specs.Whole.{reads, before, readingFrom, reading}
 use Rattle.telnet.specs.Theorems.{readOn, Unrolled}
@@ -67,12 +67,12 @@ too-long o d bs h =
     (payload-read o p _ (omega arith) ∙ full o p _ _ bs l)
 
 -- after a payload
-behind-payload : (b c o : ℕ) (p bs : List ℕ) → Stopped bs
+after-payload : (b c o : ℕ) (p bs : List ℕ) → Stopped bs
     → readingFrom (payload o p) bs ≡ readOn (b ∷ c ∷ o ∷ (doubled p ++ bs)) (closed o p bs)
 unfolding readingFrom reading stepByte stops readOn closed written
-behind-payload b c o p [] at-end = refl
-behind-payload b c o p (x ∷ []) (at-iac e) = rw e
-behind-payload b c o p (x ∷ y ∷ bs) (at-command e f) = rw (e, f) (go (eqb y se))
+after-payload b c o p [] at-end = refl
+after-payload b c o p (x ∷ []) (at-iac e) = rw e
+after-payload b c o p (x ∷ y ∷ bs) (at-command e f) = rw (e, f) (go (eqb y se))
   where
     line : List ℕ
     line = b ∷ c ∷ o ∷ (doubled p ++ x ∷ y ∷ bs)
@@ -86,51 +86,51 @@ behind-payload b c o p (x ∷ y ∷ bs) (at-command e f) = rw (e, f) (go (eqb y 
     go false = stays-failed undoubledIac bs
 
 -- after 255 250
-behind-opening : (b c : ℕ) (bs : List ℕ) → readingFrom opening bs ≡ readOn (b ∷ c ∷ bs) (afterSb bs)
+after-opening : (b c : ℕ) (bs : List ℕ) → readingFrom opening bs ≡ readOn (b ∷ c ∷ bs) (afterSb bs)
 unfolding readingFrom stepByte stops readOn afterSb
-behind-opening b c [] = refl
-behind-opening b c (o ∷ bs) = go (ltb payloadLimit (length (undoubled bs))) refl (stretch bs)
+after-opening b c [] = refl
+after-opening b c (o ∷ bs) = go (ltb payloadLimit (length (dataRun bs))) refl (stretch bs)
   where
-    go : (t : Bool) → ltb payloadLimit (length (undoubled bs)) ≡ t → Stretched bs
+    go : (t : Bool) → ltb payloadLimit (length (dataRun bs)) ≡ t → Stretched bs
         → readingFrom (payload o []) bs ≡ readOn (b ∷ c ∷ o ∷ bs) (afterSb (o ∷ bs))
-    go true e s = rw e (ap (readingFrom (payload o [])) (s .whole) ∙ too-long o (undoubled bs) (s .rest) (ltb-true _ _ e))
+    go true e s = rw e (ap (readingFrom (payload o [])) (s .whole) ∙ too-long o (dataRun bs) (s .rest) (ltb-true _ _ e))
     go false e s =
         rw (e, after-stretch bs s)
         (ap (readingFrom (payload o [])) (s .whole)
-        ∙ payload-read o (undoubled bs) (s .rest) (ltb-false payloadLimit (length (undoubled bs)) e)
-        ∙ rw (← s .whole) at (behind-payload b c o (undoubled bs) (s .rest) (s .stopped)))
+        ∙ payload-read o (dataRun bs) (s .rest) (ltb-false payloadLimit (length (dataRun bs)) e)
+        ∙ rw (← s .whole) at (after-payload b c o (dataRun bs) (s .rest) (s .stopped)))
 
 -- after 255 and the byte c
-behind-lead : (l : Lead) (b c : ℕ) (bs : List ℕ)
+after-lead : (l : Lead) (b c : ℕ) (bs : List ℕ)
     → before (leads [] l c .completes) (readingFrom (leads [] l c .mode) bs) ≡ readOn (b ∷ c ∷ bs) (afterLead l c bs)
 unfolding readingFrom reading stepByte stops leads readOn afterLead afterVerb written
-behind-lead Faulty b c bs = stays-failed badCommand bs
-behind-lead Opens b c bs = behind-opening b c bs
-behind-lead Simple b c bs = refl
-behind-lead (Negotiates v) b c [] = refl
-behind-lead (Negotiates v) b c (o ∷ bs) = refl
+after-lead Faulty b c bs = stays-failed badCommand bs
+after-lead Opens b c bs = after-opening b c bs
+after-lead Simple b c bs = refl
+after-lead (Negotiates v) b c [] = refl
+after-lead (Negotiates v) b c (o ∷ bs) = refl
 
 -- where no data stands at the front
-behind-iac : (b : ℕ) (bs : List ℕ) → Stopped (b ∷ bs) → reading (b ∷ bs) ≡ readOn (b ∷ bs) (afterIac bs)
+after-iac : (b : ℕ) (bs : List ℕ) → Stopped (b ∷ bs) → reading (b ∷ bs) ≡ readOn (b ∷ bs) (afterIac bs)
 unfolding readingFrom reading stepByte stops ended readOn afterIac
-behind-iac b [] (at-iac e) = rw e
-behind-iac b (c ∷ bs) (at-command e f) = rw (e, f) (behind-lead (lead c) b c bs)
+after-iac b [] (at-iac e) = rw e
+after-iac b (c ∷ bs) (at-command e f) = rw (e, f) (after-lead (lead c) b c bs)
 
 -- the stretch at the front is a run of its own, if it has data
-pub run-first : (bs : List ℕ) → reading bs ≡ before (ended (undoubled bs)) (reading (drop (length (doubled (undoubled bs))) bs))
+pub run-first : (bs : List ℕ) → reading bs ≡ before (ended (dataRun bs)) (reading (drop (length (doubled (dataRun bs))) bs))
 run-first bs = go (stretch bs)
   where
-    go : Stretched bs → reading bs ≡ before (ended (undoubled bs)) (reading (drop (length (doubled (undoubled bs))) bs))
-    go s = rw (after-stretch bs s) (ap reading (s .whole) ∙ run-read (undoubled bs) (s .rest) (s .stopped))
+    go : Stretched bs → reading bs ≡ before (ended (dataRun bs)) (reading (drop (length (doubled (dataRun bs))) bs))
+    go s = rw (after-stretch bs s) (ap reading (s .whole) ∙ run-read (dataRun bs) (s .rest) (s .stopped))
 
 pub unrolled : Unrolled
 unfolding reading readingFrom stops ended readOn eventOf runOr doubled written
 unrolled [] = refl
-unrolled (b ∷ bs) = go (undoubled (b ∷ bs)) refl (stretch (b ∷ bs))
+unrolled (b ∷ bs) = go (dataRun (b ∷ bs)) refl (stretch (b ∷ bs))
   where
     line : List ℕ
     line = b ∷ bs
 
-    go : (u : List ℕ) → undoubled line ≡ u → Stretched line → reading line ≡ readOn line (runOr u (afterIac bs))
-    go [] e s = behind-iac b bs (subst⁻¹ Stopped (rw e at (s .whole)) (s .stopped))
+    go : (u : List ℕ) → dataRun line ≡ u → Stretched line → reading line ≡ readOn line (runOr u (afterIac bs))
+    go [] e s = after-iac b bs (subst⁻¹ Stopped (rw e at (s .whole)) (s .stopped))
     go (d ∷ ds) e s = rw e at (run-first line)

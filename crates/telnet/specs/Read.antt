@@ -13,14 +13,14 @@ use Rattle.octets.specs.Choice.{if_then_else_}
 
 unfoldable mutual
   -- the longest stretch of data at the front, with each doubled 255 made one: it ends before a 255 that is not doubled
-  pub undoubled : List ℕ → List ℕ
-  undoubled [] = []
-  undoubled (b ∷ bs) = if eqb b iac then behindIac bs else b ∷ undoubled bs
+  pub dataRun : List ℕ → List ℕ
+  dataRun [] = []
+  dataRun (b ∷ bs) = if eqb b iac then runAfterIac bs else b ∷ dataRun bs
 
   -- the same after a 255
-  pub behindIac : List ℕ → List ℕ
-  behindIac [] = []
-  behindIac (c ∷ bs) = if eqb c iac then c ∷ undoubled bs else []
+  pub runAfterIac : List ℕ → List ℕ
+  runAfterIac [] = []
+  runAfterIac (c ∷ bs) = if eqb c iac then c ∷ dataRun bs else []
 
 -- what stands at the front: nothing, an event, or what is refused by a number
 pub data Front : Type 0 where
@@ -38,8 +38,8 @@ closed o p (x ∷ c ∷ rest) = if eqb c se then found (subnegotiation o p) else
 unfoldable pub afterSb : List ℕ → Front
 afterSb [] = refused cutShort
 afterSb (o ∷ bs) =
-    if ltb payloadLimit (length (undoubled bs)) then refused payloadTooLong
-    else closed o (undoubled bs) (drop (length (doubled (undoubled bs))) bs)
+    if ltb payloadLimit (length (dataRun bs)) then refused payloadTooLong
+    else closed o (dataRun bs) (drop (length (doubled (dataRun bs))) bs)
 
 -- after 255 and an option command: an option byte, raw
 unfoldable pub afterVerb : Verb → List ℕ → Front
@@ -66,4 +66,4 @@ runOr (d ∷ ds) other = found (run (d ∷ ds))
 -- the event at the front
 unfoldable pub eventOf : List ℕ → Front
 eventOf [] = noEvent
-eventOf (b ∷ bs) = runOr (undoubled (b ∷ bs)) (afterIac bs)
+eventOf (b ∷ bs) = runOr (dataRun (b ∷ bs)) (afterIac bs)

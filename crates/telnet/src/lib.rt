@@ -2,6 +2,25 @@
 // `specs/Event.antt`, `specs/Write.antt` and `specs/Read.antt`. The code is in `telnet_data`, `telnet_lead`,
 // `telnet_reader`, `telnet_records`, `telnet_writer`, `telnet_line` and `telnet_listing`.
 
+// The codes of a line (RFC 854 and 855; EOR, RFC 885), and the most bytes of a payload.
+pub const EOR: u8 = 239;
+
+pub const SE: u8 = 240;
+
+pub const SB: u8 = 250;
+
+pub const WILL: u8 = 251;
+
+pub const WONT: u8 = 252;
+
+pub const DO: u8 = 253;
+
+pub const DONT: u8 = 254;
+
+pub const IAC: u8 = 255;
+
+pub const PAYLOAD_LIMIT: usize = 1024;
+
 // The option commands.
 pub enum Verb {
     Will,

@@ -10,10 +10,10 @@ use Rattle.octets.proofs.Front.{empty}
 use Rattle.octets.specs.Lent.{Outcome, outcome, overwrite}
 use Rattle.octets.proofs.Overwrite.{overwrite-nil, overwrite-one, overwrite-append, length-overwrite}
 use Rattle.telnet.specs.Event.{iac}
-use Rattle.telnet.specs.Read.{undoubled}
+use Rattle.telnet.specs.Read.{dataRun}
 use Rattle.telnet_data.specs.declared.Extent.{Extent}
 use Rattle.telnet_data.specs.Promise.{count, span, copied, copyRun}
-use Rattle.telnet_data.specs.near.Pieces.{isDoubled, plain, PlainCopied}
+use Rattle.telnet_data.specs.internal.Pieces.{isDoubled, plain, PlainCopied}
 use Rattle.telnet_data.proofs.Stretches.{Piece, no-piece, joined, plain-piece, plain-length, doubled-piece, whole, Measured}
 
 -- bytes of the stretch at a place that are put at a place of a buffer, and where they end in the line and in the buffer
@@ -58,47 +58,47 @@ module _ {s : List ℕ} {at : ℕ} {out : List ℕ} {to i k : ℕ} {left : List 
   pub put-doubled : k < length left → isDoubled (drop i s) ≡ true → Put s at out to (i + 2) (k + 1) (set left k iac)
   put-doubled h e = put-piece (iac ∷ []) (doubled-piece s i e) refl (omega arith) (sym (overwrite-one left k iac h))
 
-  told : take (length out - to) (undoubled (drop at s)) ≡ p .bytes → outcome (record { count = k - to; end = i }) left ≡ copyRun s at out to
+  told : take (length out - to) (dataRun (drop at s)) ≡ p .bytes → outcome (record { count = k - to; end = i }) left ≡ copyRun s at out to
   unfolding copyRun copied
   told e =
       let n : k - to ≡ length (p .bytes) = omega arith in
       rw (e, n, ← p .piece .place, ← p .lent)
 
   -- the stretch ends, or the room does
-  pub put-whole : undoubled (drop i s) ≡ [] → outcome (record { count = k - to; end = i }) left ≡ copyRun s at out to
+  pub put-whole : dataRun (drop i s) ≡ [] → outcome (record { count = k - to; end = i }) left ≡ copyRun s at out to
   put-whole e = told (ap (take (length out - to)) (whole (p .piece) e) ∙ take-all (length out - to) (p .bytes) (p .room))
 
   pub put-full : length left ≤ k → outcome (record { count = k - to; end = i }) left ≡ copyRun s at out to
-  put-full h = told (ap (take (length out - to)) (p .piece .bytes) ∙ take-at (p .bytes) (undoubled (drop i s)) (length out - to) (omega arith))
+  put-full h = told (ap (take (length out - to)) (p .piece .bytes) ∙ take-at (p .bytes) (dataRun (drop i s)) (length out - to) (omega arith))
 
 -- the stretch at a place, copied whole to a place of a buffer
 pub record RunCopied (s : List ℕ) (at : ℕ) (out : List ℕ) (to : ℕ) (r : Extent) (l : List ℕ) : Type 0 where
   pub told : Measured s at r
-  pub lent : l ≡ overwrite out to (undoubled (drop at s))
+  pub lent : l ≡ overwrite out to (dataRun (drop at s))
 
 module _ (s : List ℕ) (at : ℕ) (out : List ℕ) (to : ℕ) {r : Extent} {l : List ℕ} (e : outcome r l ≡ copyRun s at out to) where
-  number : r .count ≡ length (take (length out - to) (undoubled (drop at s)))
+  number : r .count ≡ length (take (length out - to) (dataRun (drop at s)))
   unfolding copyRun copied
   number = ap (λ (o : Outcome Extent). o .answer .count) e
 
   -- what is copied is of the stretch
   pub run-some : 0 < r .count → 0 < count (drop at s)
   unfolding count
-  run-some h = omega (arith, number, length-take (length out - to) (undoubled (drop at s)))
+  run-some h = omega (arith, number, length-take (length out - to) (dataRun (drop at s)))
 
   -- where nothing is copied the buffer is as it was, and nothing stands there if there is room
   pub run-none : r .count ≡ 0 → l ≡ out
   unfolding copyRun copied
   run-none h = ap (λ (o : Outcome Extent). o .lent) e ∙ ap (overwrite out to) (empty _ (sym number ∙ h)) ∙ overwrite-nil out to
 
-  pub run-empty : r .count ≡ 0 → to < length out → undoubled (drop at s) ≡ []
-  run-empty h g = empty (undoubled (drop at s)) (omega (arith, number, length-take (length out - to) (undoubled (drop at s))))
+  pub run-empty : r .count ≡ 0 → to < length out → dataRun (drop at s) ≡ []
+  run-empty h g = empty (dataRun (drop at s)) (omega (arith, number, length-take (length out - to) (dataRun (drop at s))))
 
   -- where there is room for the stretch it is copied whole
   pub run-whole : count (drop at s) ≤ length out - to → RunCopied s at out to r l
   unfolding copyRun copied count span
   run-whole h =
-      let all : take (length out - to) (undoubled (drop at s)) ≡ undoubled (drop at s) = take-all (length out - to) (undoubled (drop at s)) h in
+      let all : take (length out - to) (dataRun (drop at s)) ≡ dataRun (drop at s) = take-all (length out - to) (dataRun (drop at s)) h in
       let whole = e ∙ ap (copied at out to) all in
       record {
         told = record { counted = ap (λ (o : Outcome Extent). o .answer .count) whole; ended = ap (λ (o : Outcome Extent). o .answer .end) whole };

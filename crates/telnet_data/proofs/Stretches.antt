@@ -13,11 +13,11 @@ use Rattle.octets.specs.Find.{upTo}
 use Rattle.octets.proofs.Front.{pair-front}
 use Rattle.telnet.specs.Event.{iac}
 use Rattle.telnet.specs.Write.{doubled}
-use Rattle.telnet.specs.Read.{undoubled}
+use Rattle.telnet.specs.Read.{dataRun}
 use Rattle.telnet.proofs.Stretch.{doubled-longer, doubled-append, stretch}
 use Rattle.telnet_data.specs.declared.Extent.{Extent}
 use Rattle.telnet_data.specs.Promise.{count, span, extentAt}
-use Rattle.telnet_data.specs.near.Pieces.{isDoubled, plain}
+use Rattle.telnet_data.specs.internal.Pieces.{isDoubled, plain}
 
 -- a stretch lies within its bytes, and carries no more
 pub span-within : (bs : List ℕ) → span bs ≤ length bs
@@ -26,7 +26,7 @@ span-within bs = omega (arith, simp length-append at (ap length (stretch bs .who
 
 pub count-within : (bs : List ℕ) → count bs ≤ length bs
 unfolding count span
-count-within bs = omega (arith, doubled-longer (undoubled bs), span-within bs)
+count-within bs = omega (arith, doubled-longer (dataRun bs), span-within bs)
 
 -- a stretch that was measured, by its parts
 pub record Measured (s : List ℕ) (at : ℕ) (r : Extent) : Type 0 where
@@ -39,12 +39,12 @@ measured s at r e = record { counted = ap (λ (x : Extent). x .count) e; ended =
 
 -- plain bytes at the front, all up to the next 255 or fewer
 record Plain (n : ℕ) (bs : List ℕ) : Type 0 where
-  bytes : undoubled bs ≡ take n bs ++ undoubled (drop n bs)
+  bytes : dataRun bs ≡ take n bs ++ dataRun (drop n bs)
   once : length (doubled (take n bs)) ≡ n
   there : n ≤ length bs
 
 plain-front : (n : ℕ) (bs : List ℕ) → n ≤ length (upTo iac bs) → Plain n bs
-unfolding undoubled doubled upTo
+unfolding dataRun doubled upTo
 plain-front zero bs h = record { bytes = refl; once = refl; there = omega arith }
 plain-front (suc n) [] h = absurd (omega arith)
 plain-front (suc n) (b ∷ bs) h = go (eqb b iac) refl (plain-front n bs)
@@ -57,38 +57,38 @@ plain-front (suc n) (b ∷ bs) h = go (eqb b iac) refl (plain-front n bs)
         record { bytes = rw e (ap (λ x. b ∷ x) (p .bytes)); once = rw e (ap suc (p .once)); there = omega (arith, p .there) }
 
 -- a doubled 255 at the front
-doubled-front : (bs : List ℕ) → isDoubled bs ≡ true → undoubled bs ≡ iac ∷ undoubled (drop 2 bs)
-unfolding undoubled isDoubled
+doubled-front : (bs : List ℕ) → isDoubled bs ≡ true → dataRun bs ≡ iac ∷ dataRun (drop 2 bs)
+unfolding dataRun isDoubled
 doubled-front [] h = cc
 doubled-front (b ∷ []) h = cc
 doubled-front (b ∷ c ∷ bs) h = go (eqb b iac) refl (eqb c iac) refl
   where
-    go : (t : Bool) → eqb b iac ≡ t → (u : Bool) → eqb c iac ≡ u → undoubled (b ∷ c ∷ bs) ≡ iac ∷ undoubled bs
-    go true e true f = rw (e, f) (ap (λ x. x ∷ undoubled bs) (eqb-true c iac f))
+    go : (t : Bool) → eqb b iac ≡ t → (u : Bool) → eqb c iac ≡ u → dataRun (b ∷ c ∷ bs) ≡ iac ∷ dataRun bs
+    go true e true f = rw (e, f) (ap (λ x. x ∷ dataRun bs) (eqb-true c iac f))
     go true e false f = let z : _≡_ {A = Bool} false true = rw (e, f) at h in cc
     go false e u f = let z : _≡_ {A = Bool} false true = rw e at h in cc
 
 -- where the plain bytes end, no data stand but after a doubled 255
-plain-stops : (bs : List ℕ) → isDoubled (drop (length (upTo iac bs)) bs) ≡ false → undoubled (drop (length (upTo iac bs)) bs) ≡ []
-unfolding undoubled isDoubled upTo
+plain-stops : (bs : List ℕ) → isDoubled (drop (length (upTo iac bs)) bs) ≡ false → dataRun (drop (length (upTo iac bs)) bs) ≡ []
+unfolding dataRun isDoubled upTo
 plain-stops [] h = refl
 plain-stops (b ∷ []) h = go (eqb b iac) refl
   where
-    go : (t : Bool) → eqb b iac ≡ t → undoubled (drop (length (upTo iac (b ∷ []))) (b ∷ [])) ≡ []
+    go : (t : Bool) → eqb b iac ≡ t → dataRun (drop (length (upTo iac (b ∷ []))) (b ∷ [])) ≡ []
     go true e = rw (e, e)
     go false e = rw e
 plain-stops (b ∷ c ∷ bs) h = go (eqb b iac) refl (eqb c iac) refl (plain-stops (c ∷ bs))
   where
     go : (t : Bool) → eqb b iac ≡ t → (u : Bool) → eqb c iac ≡ u
-        → (isDoubled (drop (length (upTo iac (c ∷ bs))) (c ∷ bs)) ≡ false → undoubled (drop (length (upTo iac (c ∷ bs))) (c ∷ bs)) ≡ [])
-        → undoubled (drop (length (upTo iac (b ∷ c ∷ bs))) (b ∷ c ∷ bs)) ≡ []
+        → (isDoubled (drop (length (upTo iac (c ∷ bs))) (c ∷ bs)) ≡ false → dataRun (drop (length (upTo iac (c ∷ bs))) (c ∷ bs)) ≡ [])
+        → dataRun (drop (length (upTo iac (b ∷ c ∷ bs))) (b ∷ c ∷ bs)) ≡ []
     go true e true f r = let z : _≡_ {A = Bool} true false = rw (e, e, f) at h in cc
     go true e false f r = rw (e, e, f)
     go false e u f r = rw e (r (rw e at h))
 
 -- a piece of the stretch at a place: its bytes, and the place after it where the stretch goes on
 pub record Piece (s : List ℕ) (at : ℕ) (d : List ℕ) (i : ℕ) : Type 0 where
-  pub bytes : undoubled (drop at s) ≡ d ++ undoubled (drop i s)
+  pub bytes : dataRun (drop at s) ≡ d ++ dataRun (drop i s)
   pub place : i ≡ at + length (doubled d)
 
 pub no-piece : (s : List ℕ) (at : ℕ) → Piece s at [] at
@@ -98,7 +98,7 @@ no-piece s at = record { bytes = refl; place = omega arith }
 module _ {s : List ℕ} {at : ℕ} {d : List ℕ} {i : ℕ} (p : Piece s at d i) where
   pub joined : {x : List ℕ} {j : ℕ} → Piece s i x j → Piece s at (d ++ x) j
   joined {x} {j} q = record {
-    bytes = p .bytes ∙ ap (λ l. d ++ l) (q .bytes) ∙ sym (append-assoc d x (undoubled (drop j s)));
+    bytes = p .bytes ∙ ap (λ l. d ++ l) (q .bytes) ∙ sym (append-assoc d x (dataRun (drop j s)));
     place = rw (doubled-append, length-append) (omega arith);
   }
 
@@ -106,12 +106,12 @@ module _ {s : List ℕ} {at : ℕ} {d : List ℕ} {i : ℕ} (p : Piece s at d i)
   pub within : (at + length d ≤ i) × (i ≤ at + (length s - at))
   unfolding span
   within =
-      let all : length (doubled (undoubled (drop at s))) ≡ length (doubled d) + length (doubled (undoubled (drop i s))) =
+      let all : length (doubled (dataRun (drop at s))) ≡ length (doubled d) + length (doubled (dataRun (drop i s))) =
       ap (λ l. length (doubled l)) (p .bytes) ∙ rw (doubled-append, length-append) in
       (omega (arith, doubled-longer d), omega (arith, span-within (drop at s), length-drop at s))
 
   -- it is the whole where the stretch ends after it
-  pub whole : undoubled (drop i s) ≡ [] → undoubled (drop at s) ≡ d
+  pub whole : dataRun (drop i s) ≡ [] → dataRun (drop at s) ≡ d
   whole e = p .bytes ∙ rw (e, append-nil)
 
 module _ (s : List ℕ) (i : ℕ) where
@@ -128,11 +128,11 @@ module _ (s : List ℕ) (i : ℕ) where
   doubled-piece h = record { bytes = rw (← drop-drop 2 i s) (doubled-front (drop i s) h); place = refl }
 
   -- where neither stands, or the line ends, the stretch ends
-  pub stopped : (j : ℕ) → j ≡ i + plain s i → isDoubled (drop j s) ≡ false → undoubled (drop j s) ≡ []
+  pub stopped : (j : ℕ) → j ≡ i + plain s i → isDoubled (drop j s) ≡ false → dataRun (drop j s) ≡ []
   stopped j e h = rw (e, ← drop-drop (plain s i) i s) (plain-stops (drop i s) (rw (e, ← drop-drop (plain s i) i s) at h))
 
-  pub ended : length s ≤ i → undoubled (drop i s) ≡ []
-  unfolding undoubled
+  pub ended : length s ≤ i → dataRun (drop i s) ≡ []
+  unfolding dataRun
   ended h = rw (drop-of-length-le s {i = i} h)
 
   -- whether a doubled 255 stands at a place, by the bytes there
@@ -179,6 +179,6 @@ module _ {s : List ℕ} {at i n : ℕ} (p : Passed s at i n) where
   }
 
   -- where the stretch ends, all of it is passed
-  pub pass-all : undoubled (drop i s) ≡ [] → _≡_ {A = Extent} (record { count = n; end = i }) (extentAt s at)
+  pub pass-all : dataRun (drop i s) ≡ [] → _≡_ {A = Extent} (record { count = n; end = i }) (extentAt s at)
   unfolding extentAt count span
   pass-all e = rw (whole (p .piece) e, ← p .piece .place, p .number)

@@ -5,15 +5,15 @@ use mathlib.Core.List.{List}
 use lib.ListN.{length, take, drop}
 use Rattle.octets.specs.Lent.{Outcome, outcome, overwrite}
 use Rattle.telnet.specs.Write.{doubled}
-use Rattle.telnet.specs.Read.{undoubled}
+use Rattle.telnet.specs.Read.{dataRun}
 use Rattle.telnet_data.specs.declared.Extent.{Extent}
 
 -- how many bytes the stretch of data at the front carries, and how many bytes of the line it takes
 unfoldable pub count : List ℕ → ℕ
-count bs = length (undoubled bs)
+count bs = length (dataRun bs)
 
 unfoldable pub span : List ℕ → ℕ
-span bs = length (doubled (undoubled bs))
+span bs = length (doubled (dataRun bs))
 
 -- the stretch at a place, which is empty past the end
 unfoldable pub extentAt : List ℕ → ℕ → Extent
@@ -25,4 +25,4 @@ copied at out to d = outcome (record { count = length d; end = at + length (doub
 
 -- as much of the stretch at a place as a buffer has room for from a place on, put there
 unfoldable pub copyRun : List ℕ → ℕ → List ℕ → ℕ → Outcome Extent
-copyRun s at out to = copied at out to (take (length out - to) (undoubled (drop at s)))
+copyRun s at out to = copied at out to (take (length out - to) (dataRun (drop at s)))

@@ -5,7 +5,8 @@ ghost use Prim.Native.Nat.{_≤_, min};
 ghost use lib.ListN.{length, drop};
 ghost use Rattle.octets.specs.Lent.{outcome};
 ghost use Rattle.telnet_data.specs.Promise.{extentAt, copyRun};
-ghost use Rattle.telnet_data.specs.near.Pieces.{isDoubled, PlainCopied};
+ghost use Rattle.telnet_data.specs.internal.Pieces.{isDoubled, PlainCopied};
+use telnet::IAC;
 
 // The stretch of data at a place: how many bytes it carries, and the place after it.
 pub struct Extent {
@@ -23,10 +24,10 @@ fn is_doubled(s: &[u8], at: usize) -> bool
     if s.len() - at < 2 {
         return false;
     }
-    if s[at] != 255 {
+    if s[at] != IAC {
         return false;
     }
-    s[at + 1] == 255
+    s[at + 1] == IAC
 }
 
 // The longest stretch of data at a place.
@@ -36,7 +37,7 @@ pub fn measure(s: &[u8], at: usize) -> Extent
     let mut i = at;
     let mut n = 0;
     while i < s.len() {
-        let plain = octets_find::find_byte(s, i, 255);
+        let plain = octets_find::find_byte(s, i, IAC);
         n += plain - i;
         if !is_doubled(s, plain) {
             return Extent {
@@ -65,7 +66,7 @@ fn copy_plain(s: &[u8], at: usize, out: &mut [u8], to: usize) -> usize
     requires { ⌜ to ≤ length (now out) ⌝ }
     ensures { λ r. ⌜ PlainCopied (now (s .entry)) at (now (out .entry)) to r (now (out .exit)) ⌝ }
 {
-    let n = smaller(octets_find::find_byte(s, at, 255) - at, out.len() - to);
+    let n = smaller(octets_find::find_byte(s, at, IAC) - at, out.len() - to);
     octets::put(octets_part::part(s, at, n), out, to);
     n
 }
@@ -93,7 +94,7 @@ pub fn copy_run(s: &[u8], at: usize, out: &mut [u8], to: usize) -> Extent
                 end: i,
             };
         }
-        out[k] = 255;
+        out[k] = IAC;
         i += 2;
         k += 1;
     }

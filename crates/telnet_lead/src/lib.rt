@@ -2,23 +2,30 @@
 // `specs/Event.antt`.
 ghost use mathlib.Core.Path.{_≡_};
 ghost use Rattle.telnet.specs.Event.{lead};
+use telnet::DO;
+use telnet::DONT;
+use telnet::EOR;
 use telnet::Lead;
+use telnet::SB;
+use telnet::SE;
 use telnet::Verb;
+use telnet::WILL;
+use telnet::WONT;
 
 // What a byte after a 255 that is not doubled begins.
 pub fn lead_of(c: u8) -> Lead
     ensures { λ r. ⌜ r ≡ lead c ⌝ }
 {
-    if c < 239 {
+    if c < EOR {
         return Lead::Faulty;
     }
     match c {
-        240 => Lead::Faulty,
-        250 => Lead::Opens,
-        251 => Lead::Negotiates(Verb::Will),
-        252 => Lead::Negotiates(Verb::Wont),
-        253 => Lead::Negotiates(Verb::Do),
-        254 => Lead::Negotiates(Verb::Dont),
+        SE => Lead::Faulty,
+        SB => Lead::Opens,
+        WILL => Lead::Negotiates(Verb::Will),
+        WONT => Lead::Negotiates(Verb::Wont),
+        DO => Lead::Negotiates(Verb::Do),
+        DONT => Lead::Negotiates(Verb::Dont),
         _ => Lead::Simple,
     }
 }

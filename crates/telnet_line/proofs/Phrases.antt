@@ -8,7 +8,7 @@ use Rattle.octets.specs.Decimal.{decimal}
 use Rattle.telnet_line.specs.declared.words.Word.{Word}
 use Rattle.telnet_line.specs.declared.words.Phrase.{Phrase}
 use Rattle.telnet_line.specs.Line.{said}
-use Rattle.telnet_line.specs.near.Phrase.{alone, numbered, IsWord, IsPhrase}
+use Rattle.telnet_line.specs.internal.Phrase.{alone, numbered, IsWord, IsPhrase}
 
 module _ {letters : List ℕ} {w : Word} {p : Phrase} where
   pub word-alone : p ≡ alone w → IsWord letters w → IsPhrase letters p

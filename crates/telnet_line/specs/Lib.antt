@@ -1,3 +1,3 @@
 pub mod Line
-pub mod near
+pub mod internal
 pub mod Promise

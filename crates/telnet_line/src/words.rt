@@ -8,8 +8,8 @@ ghost use lib.ListN.{length};
 ghost use Rattle.octets.specs.Ascii.{ascii};
 ghost use Rattle.octets.specs.Decimal.{decimal};
 ghost use Rattle.telnet_line.specs.Line.{verbName, commandText, text, answerText, line};
-ghost use Rattle.telnet_line.specs.near.Phrase.{spacedIf, most, wordText, phraseText, alone, numbered, Short, IsWord, IsPhrase};
-ghost use Rattle.telnet_line.specs.near.Put.{Put};
+ghost use Rattle.telnet_line.specs.internal.Phrase.{spacedIf, most, wordText, phraseText, alone, numbered, Short, IsWord, IsPhrase};
+ghost use Rattle.telnet_line.specs.internal.Put.{Put};
 use telnet::Kind;
 use telnet::Verb;
 use telnet_reader::Answer;
@@ -118,7 +118,7 @@ fn with_number(word: Word, n: u64) -> Phrase
 fn command_phrase(c: u8) -> Phrase
     ensures { λ r. ⌜ IsPhrase (commandText c) r ⌝ }
 {
-    if c == 239 {
+    if c == telnet::EOR {
         return bare(EOR);
     }
     with_number(CMD, c as u64)

@@ -32,40 +32,40 @@ unfolding linesAt listing
 lines-all s = refl
 
 -- what is left to list after what stands at a place
-abbrev pub behind : List ℕ → Answer → List ℕ
-behind s End = []
-behind s (Found k n next) = linesAt s next
-behind s (Refused n) = []
+abbrev pub after : List ℕ → Answer → List ℕ
+after s End = []
+after s (Found k n next) = linesAt s next
+after s (Refused n) = []
 
 module _ (s : List ℕ) (i : ℕ) (h : i ≤ length s) where
   -- a turn, where the reader answers r, which is q
-  pub turn : {r q : Answer} → r ≡ lookAt s i → r ≡ q → linesAt s i ≡ line i (answerText r) ++ behind s q
+  pub turn : {r q : Answer} → r ≡ lookAt s i → r ≡ q → linesAt s i ≡ line i (answerText r) ++ after s q
   unfolding linesAt linesFrom readOn answered answerText
   turn {r} e g =
       ap (linesOf i) (unrolled (drop i s)) ∙ go (eventOf (drop i s))
-      ∙ ap (λ a. line i (answerText a) ++ behind s a) (sym (e ∙ looked s i h))
-      ∙ ap (λ a. line i (answerText r) ++ behind s a) g
+      ∙ ap (λ a. line i (answerText a) ++ after s a) (sym (e ∙ looked s i h))
+      ∙ ap (λ a. line i (answerText r) ++ after s a) g
     where
-      go : (f : Front) → linesOf i (readOn (drop i s) f) ≡ line i (answerText (answered i f)) ++ behind s (answered i f)
+      go : (f : Front) → linesOf i (readOn (drop i s) f) ≡ line i (answerText (answered i f)) ++ after s (answered i f)
       go noEvent = sym (append-nil _)
       go (refused n) = sym (append-nil _)
       go (found e) = rw drop-drop
 
   pub turn-length : {r q : Answer} → r ≡ lookAt s i → r ≡ q
-      → length (linesAt s i) ≡ length (line i (answerText r)) + length (behind s q)
-  turn-length {r} {q} e g = ap length (turn e g) ∙ length-append (line i (answerText r)) (behind s q)
+      → length (linesAt s i) ≡ length (line i (answerText r)) + length (after s q)
+  turn-length {r} {q} e g = ap length (turn e g) ∙ length-append (line i (answerText r)) (after s q)
 
   -- a turn puts its line, and then come the lines after it
   pub turn-put : {r q : Answer} → r ≡ lookAt s i → r ≡ q → (b : List ℕ) (at : ℕ) {l : List ℕ} {n : ℕ}
       → at + length (linesAt s i) ≤ length b → l ≡ overwrite b at (line i (answerText r)) → n ≡ length (line i (answerText r))
-      → overwrite l (at + n) (behind s q) ≡ overwrite b at (linesAt s i)
+      → overwrite l (at + n) (after s q) ≡ overwrite b at (linesAt s i)
   turn-put {r} {q} e g b at h p k =
-      ap₂ (λ u m. overwrite u (at + m) (behind s q)) p k
-      ∙ overwrite-append b at (line i (answerText r)) (behind s q) (omega (arith, turn-length e g))
+      ap₂ (λ u m. overwrite u (at + m) (after s q)) p k
+      ∙ overwrite-append b at (line i (answerText r)) (after s q) (omega (arith, turn-length e g))
       ∙ ap (overwrite b at) (sym (turn e g))
 
   -- the last turn puts all that is left
-  pub last-put : {r q : Answer} → r ≡ lookAt s i → r ≡ q → behind s q ≡ [] → (b : List ℕ) (at : ℕ) {l : List ℕ}
+  pub last-put : {r q : Answer} → r ≡ lookAt s i → r ≡ q → after s q ≡ [] → (b : List ℕ) (at : ℕ) {l : List ℕ}
       → l ≡ overwrite b at (line i (answerText r)) → l ≡ overwrite b at (linesAt s i)
   last-put {r} e g z b at p = p ∙ ap (overwrite b at) (sym (turn e g ∙ ap (λ y. line i (answerText r) ++ y) z ∙ append-nil _))
 

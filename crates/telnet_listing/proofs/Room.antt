@@ -23,7 +23,7 @@ use Rattle.telnet.specs.declared.Lead.{Lead}
 use Rattle.telnet.specs.declared.Lead.the-variants.{Faulty, Opens, Negotiates, Simple}
 use Rattle.telnet.specs.Event.{Event, run, command, negotiation, subnegotiation, kind, carriedBytes, lead, eor, se, payloadLimit}
 use Rattle.telnet.specs.Write.{doubled, written}
-use Rattle.telnet.specs.Read.{undoubled, Front, noEvent, found, refused, closed, afterSb, afterVerb, afterLead, afterIac, runOr, eventOf}
+use Rattle.telnet.specs.Read.{dataRun, Front, noEvent, found, refused, closed, afterSb, afterVerb, afterLead, afterIac, runOr, eventOf}
 use Rattle.telnet_reader.specs.Promise.{answered}
 use Rattle.telnet_reader.proofs.Places.{looked}
 use Rattle.telnet.proofs.Stretch.{doubled-longer}
@@ -31,7 +31,7 @@ use Rattle.telnet_reader.proofs.Carried.{Carries, none, not-found, carries, eve
 use Rattle.telnet_line.specs.Line.{said, verbName, commandText, text, endingText, answerText, line}
 use Rattle.telnet_listing.specs.Listing.{listing}
 use Rattle.telnet_listing.specs.Printed.{limit, printed, atFront, room, Fits}
-use Rattle.telnet_listing.proofs.Lines.{linesAt, lines-all, behind, turn-length}
+use Rattle.telnet_listing.proofs.Lines.{linesAt, lines-all, after, turn-length}
 
 -- a run has data, and the number that another event names is a byte
 abbrev Small : Event → Type 0
@@ -57,7 +57,7 @@ unfolding afterLead afterSb afterVerb
 led-plain Faulty c bs h g = omega arith
 led-plain Opens c [] h g = omega arith
 led-plain Opens c (o ∷ bs) h g =
-    choice Plain (ltb payloadLimit (length (undoubled bs))) (λ _. omega arith) (λ _. closed-plain o _ _ (g 0))
+    choice Plain (ltb payloadLimit (length (dataRun bs))) (λ _. omega arith) (λ _. closed-plain o _ _ (g 0))
 led-plain (Negotiates v) c [] h g = omega arith
 led-plain (Negotiates v) c (o ∷ bs) h g = g 0
 led-plain Simple c bs h g = h
@@ -70,7 +70,7 @@ commanded-plain (c ∷ bs) g = led-plain (lead c) c bs (g 0) (λ i. g (suc i))
 event-plain : (bs : List ℕ) → Bytes bs → Plain (eventOf bs)
 unfolding eventOf runOr
 event-plain [] g = tt
-event-plain (b ∷ bs) g = go (undoubled (b ∷ bs))
+event-plain (b ∷ bs) g = go (dataRun (b ∷ bs))
   where
     go : (d : List ℕ) → Plain (runOr d (afterIac bs))
     go [] = commanded-plain bs (λ i. g (suc i))
@@ -126,7 +126,7 @@ module _ (s : List ℕ) (g : Bytes s) (most : length s ≤ limit) where
       omega (arith, turn-length s i h (sym (looked s i h)) refl, go (eventOf (drop i s)) (event-carries (drop i s)) (event-plain (drop i s) (bytes-from i)))
     where
       go : (f : Front) → Carries (drop i s) f → Plain f
-          → length (line i (answerText (answered i f))) + length (behind s (answered i f)) + 13 * i ≤ 13 * length s + 16
+          → length (line i (answerText (answered i f))) + length (after s (answered i f)) + 13 * i ≤ 13 * length s + 16
       go _ none p = omega (arith, length-line i (ascii "END"), place-short i h)
       go (refused n) not-found p =
           let w = ascii "REFUSED" in

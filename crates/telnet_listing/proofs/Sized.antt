@@ -9,7 +9,7 @@ use borrow.Author.Tests.{lt-ltb, le-ltb}
 use Rattle.refusal.specs.Refusal.{noRoom}
 use Rattle.octets.proofs.Order.{below-or-above}
 use Rattle.telnet_line.specs.declared.Listed.the-variants.{Wrote, Refused}
-use Rattle.telnet_listing.specs.near.Sized.{sized}
+use Rattle.telnet_listing.specs.internal.Sized.{sized}
 
 module _ (x : List ℕ) (room : ℕ) where
   pub sized-fits : length x ≤ room → sized x room ≡ Wrote (length x)

@@ -1,4 +1,4 @@
 pub mod Listing
 pub mod Printed
-pub mod near
+pub mod internal
 pub mod Sample

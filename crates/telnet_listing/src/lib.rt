@@ -7,7 +7,7 @@ ghost use Rattle.octets.specs.Lent.{outcome};
 ghost use Rattle.telnet_line.specs.Promise.{putFront};
 ghost use Rattle.telnet_listing.specs.Listing.{listing};
 ghost use Rattle.telnet_listing.specs.Printed.{printed, atFront};
-ghost use Rattle.telnet_listing.specs.near.Sized.{sized};
+ghost use Rattle.telnet_listing.specs.internal.Sized.{sized};
 use telnet_line::Listed;
 use telnet_reader::Answer;
 

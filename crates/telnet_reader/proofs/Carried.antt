@@ -19,9 +19,9 @@ use Rattle.telnet_reader.specs.declared.Answer.the-variants.{End, Found,
 use Rattle.telnet.specs.declared.Kind.the-variants.{Data}
 use Rattle.telnet.specs.Event.{Event, run, command, negotiation, kind, carriedBytes, lead, se, payloadLimit}
 use Rattle.telnet.specs.Write.{written, doubled}
-use Rattle.telnet.specs.Read.{undoubled, Front, noEvent, found, refused, closed, afterSb, afterVerb, afterLead, afterIac, runOr, eventOf}
+use Rattle.telnet.specs.Read.{dataRun, Front, noEvent, found, refused, closed, afterSb, afterVerb, afterLead, afterIac, runOr, eventOf}
 use Rattle.telnet_data.specs.Promise.{count, span}
-use Rattle.telnet_reader.specs.near.Lead.{leadIn}
+use Rattle.telnet_reader.specs.internal.Lead.{leadIn}
 use Rattle.telnet.specs.Record.{dataOf}
 use Rattle.telnet.proofs.Stretch.{doubled-longer}
 use Rattle.telnet_data.proofs.Stretches.{span-within, count-within}
@@ -32,8 +32,8 @@ use Rattle.refusal.specs.Refusal.{noRoom, pastTheEnd}
 -- an event that stands at the front: it takes at least one byte and none past the end, what it carries is the stretch
 -- after its lead-in, and its data, if any, the stretch at the front
 pub record Stands (bs : List ℕ) (e : Event) : Type 0 where
-  pub carried-is : carriedBytes e ≡ undoubled (drop (leadIn (kind e)) bs)
-  pub data-is : dataOf e ≡ undoubled bs
+  pub carried-is : carriedBytes e ≡ dataRun (drop (leadIn (kind e)) bs)
+  pub data-is : dataOf e ≡ dataRun bs
   pub positive : 0 < length (written e)
   pub within : length (written e) ≤ length bs
 
@@ -42,8 +42,8 @@ pub data Carries (bs : List ℕ) : Front → Type 0 where
   not-found : {n : ℕ} → Carries bs (refused n)
   carries : {e : Event} → Stands bs e → Carries bs (found e)
 
-closed-carries : (b c o : ℕ) (p rest : List ℕ) → undoubled (b ∷ c ∷ o ∷ p) ≡ [] → length rest ≡ length p - length (doubled (undoubled p))
-    → Carries (b ∷ c ∷ o ∷ p) (closed o (undoubled p) rest)
+closed-carries : (b c o : ℕ) (p rest : List ℕ) → dataRun (b ∷ c ∷ o ∷ p) ≡ [] → length rest ≡ length p - length (doubled (dataRun p))
+    → Carries (b ∷ c ∷ o ∷ p) (closed o (dataRun p) rest)
 unfolding closed written dataOf
 closed-carries b c o p [] e l = not-found
 closed-carries b c o p (x ∷ []) e l = not-found
@@ -52,25 +52,25 @@ closed-carries b c o p (x ∷ y ∷ rest) e l =
     (λ _. carries (record { carried-is = refl; data-is = sym e; positive = omega arith; within = simp length-append (omega arith) }))
     (λ _. not-found)
 
-led-carries : (l : Lead) (b c : ℕ) (bs : List ℕ) → undoubled (b ∷ c ∷ bs) ≡ [] → Carries (b ∷ c ∷ bs) (afterLead l c bs)
+led-carries : (l : Lead) (b c : ℕ) (bs : List ℕ) → dataRun (b ∷ c ∷ bs) ≡ [] → Carries (b ∷ c ∷ bs) (afterLead l c bs)
 unfolding afterLead afterSb afterVerb written dataOf
 led-carries Faulty b c bs e = not-found
 led-carries Opens b c [] e = not-found
 led-carries Opens b c (o ∷ p) e =
-    choice (Carries (b ∷ c ∷ o ∷ p)) (ltb payloadLimit (length (undoubled p))) (λ _. not-found)
-    (λ _. closed-carries b c o p _ e (length-drop (length (doubled (undoubled p))) p))
+    choice (Carries (b ∷ c ∷ o ∷ p)) (ltb payloadLimit (length (dataRun p))) (λ _. not-found)
+    (λ _. closed-carries b c o p _ e (length-drop (length (doubled (dataRun p))) p))
 led-carries (Negotiates v) b c [] e = not-found
 led-carries (Negotiates v) b c (o ∷ bs) e =
     carries {e = negotiation v o} (record { carried-is = sym e; data-is = sym e; positive = omega arith; within = omega arith })
 led-carries Simple b c bs e =
     carries {e = command c} (record { carried-is = sym e; data-is = sym e; positive = omega arith; within = omega arith })
 
-commanded-carries : (b : ℕ) (bs : List ℕ) → undoubled (b ∷ bs) ≡ [] → Carries (b ∷ bs) (afterIac bs)
+commanded-carries : (b : ℕ) (bs : List ℕ) → dataRun (b ∷ bs) ≡ [] → Carries (b ∷ bs) (afterIac bs)
 unfolding afterIac
 commanded-carries b [] e = not-found
 commanded-carries b (c ∷ bs) e = led-carries (lead c) b c bs e
 
-run-carries : (b : ℕ) (bs d : List ℕ) → undoubled (b ∷ bs) ≡ d → Carries (b ∷ bs) (runOr d (afterIac bs))
+run-carries : (b : ℕ) (bs d : List ℕ) → dataRun (b ∷ bs) ≡ d → Carries (b ∷ bs) (runOr d (afterIac bs))
 unfolding runOr written dataOf span
 run-carries b bs [] e = commanded-carries b bs e
 run-carries b bs (x ∷ d) e =
@@ -85,7 +85,7 @@ run-carries b bs (x ∷ d) e =
 pub event-carries : (bs : List ℕ) → Carries bs (eventOf bs)
 unfolding eventOf
 event-carries [] = none
-event-carries (b ∷ bs) = run-carries b bs (undoubled (b ∷ bs)) refl
+event-carries (b ∷ bs) = run-carries b bs (dataRun (b ∷ bs)) refl
 
 pub event-stands : (bs : List ℕ) (e : Event) → eventOf bs ≡ found e → Stands bs e
 event-stands bs e f = go (subst (Carries bs) f (event-carries bs))
@@ -96,14 +96,14 @@ event-stands bs e f = go (subst (Carries bs) f (event-carries bs))
 -- an event that was looked at lies within the bytes, and what it carries is the stretch after its lead-in
 abbrev pub Placed : List ℕ → ℕ → Answer → Type 0
 Placed s at End = Unit {0}
-Placed s at (Found k n x) = (at ≤ length s) × (n ≡ length (undoubled (drop (at + leadIn k) s)))
+Placed s at (Found k n x) = (at ≤ length s) × (n ≡ length (dataRun (drop (at + leadIn k) s)))
 Placed s at (Refused m) = Unit {0}
 
 -- what `read` leaves, by what `look` answers
 abbrev pub delivering : List ℕ → ℕ → List ℕ → Answer → Outcome Answer
 delivering s at out End = outcome End out
 delivering s at out (Found k n x) =
-    if ltb (length out) n then outcome (Refused noRoom) out else outcome (Found k n x) (overwrite out 0 (undoubled (drop (at + leadIn k) s)))
+    if ltb (length out) n then outcome (Refused noRoom) out else outcome (Found k n x) (overwrite out 0 (dataRun (drop (at + leadIn k) s)))
 delivering s at out (Refused m) = outcome (Refused m) out
 
 module _ (s : List ℕ) (at : ℕ) where
@@ -111,7 +111,7 @@ module _ (s : List ℕ) (at : ℕ) where
   unfolding answered
   answered-placed h _ none = tt
   answered-placed h _ not-found = tt
-  answered-placed h _ (carries {e = e} c) = (h, ap length (c .carried-is ∙ ap undoubled (drop-drop (leadIn (kind e)) at s)))
+  answered-placed h _ (carries {e = e} c) = (h, ap length (c .carried-is ∙ ap dataRun (drop-drop (leadIn (kind e)) at s)))
 
   pub looked-placed : Placed s at (lookAt s at)
   unfolding lookAt
@@ -138,7 +138,7 @@ module _ (s : List ℕ) (at : ℕ) where
 
   -- a run for which there is room
   pub read-run : (out : List ℕ) → 0 < count (drop at s) → count (drop at s) ≤ length out
-      → readAt s at out ≡ outcome (Found Data (count (drop at s)) (at + span (drop at s))) (overwrite out 0 (undoubled (drop at s)))
+      → readAt s at out ≡ outcome (Found Data (count (drop at s)) (at + span (drop at s))) (overwrite out 0 (dataRun (drop at s)))
   read-run out h g =
       let within : at ≤ length s = omega (arith, count-within (drop at s), length-drop at s) in
       read-delivers out ∙ ap (delivering s at out) (look-run s at within h) ∙ rw (le-ltb (length out) (count (drop at s)) g, add-zero at)

@@ -15,15 +15,15 @@ use Rattle.telnet_reader.specs.declared.Answer.the-variants.{End, Found,
 use Rattle.telnet.specs.declared.Kind.the-variants.{Data, Negotiation, Subnegotiation}
 use Rattle.telnet.specs.Event.{subnegotiation, lead, iac, se, payloadLimit}
 use Rattle.telnet.specs.Write.{doubled, written}
-use Rattle.telnet.specs.Read.{undoubled, afterVerb, afterSb, closed, afterIac, afterLead, eventOf, runOr, Front}
+use Rattle.telnet.specs.Read.{dataRun, afterVerb, afterSb, closed, afterIac, afterLead, eventOf, runOr, Front}
 use Rattle.telnet_data.specs.Promise.{count, span}
 use Rattle.telnet_reader.specs.Promise.{answered, lookAt}
 use Rattle.octets.proofs.Front.{empty, at-front, pair-front}
 
 -- after a stretch at place i
-pub behind : (s : List ℕ) (i : ℕ) → drop (length (doubled (undoubled (drop i s)))) (drop i s) ≡ drop (i + span (drop i s)) s
+pub after : (s : List ℕ) (i : ℕ) → drop (length (doubled (dataRun (drop i s)))) (drop i s) ≡ drop (i + span (drop i s)) s
 unfolding span
-behind s i = drop-drop (length (doubled (undoubled (drop i s)))) i s
+after s i = drop-drop (length (doubled (dataRun (drop i s)))) i s
 
 module _ (s : List ℕ) (at : ℕ) where
   pub verb-cut : (v : Verb) → length s ≤ at + 2 → answered at (afterVerb v (drop (at + 2) s)) ≡ Refused cutShort
@@ -49,13 +49,13 @@ module _ (s : List ℕ) (at : ℕ) where
 
   -- with a payload within the limit, what closes it decides
   opened-closed : at + 2 < length s → count (drop (at + 3) s) ≤ payloadLimit
-      → afterSb (drop (at + 2) s) ≡ closed (getD s (at + 2) 0) (undoubled (drop (at + 3) s)) (drop tail s)
+      → afterSb (drop (at + 2) s) ≡ closed (getD s (at + 2) 0) (dataRun (drop (at + 3) s)) (drop tail s)
   unfolding afterSb count
-  opened-closed h k = rw (option-front h, le-ltb payloadLimit (length (undoubled (drop (at + 3) s))) k, behind s (at + 3))
+  opened-closed h k = rw (option-front h, le-ltb payloadLimit (length (dataRun (drop (at + 3) s))) k, after s (at + 3))
 
   pub sb-long : at + 2 < length s → payloadLimit < count (drop (at + 3) s) → answered at (afterSb (drop (at + 2) s)) ≡ Refused payloadTooLong
   unfolding answered afterSb count
-  sb-long h k = rw (option-front h, lt-ltb payloadLimit (length (undoubled (drop (at + 3) s))) k)
+  sb-long h k = rw (option-front h, lt-ltb payloadLimit (length (dataRun (drop (at + 3) s))) k)
 
   module _ (h : at + 2 < length s) (k : count (drop (at + 3) s) ≤ payloadLimit) where
     pub sb-short : length s < tail + 2 → answered at (afterSb (drop (at + 2) s)) ≡ Refused cutShort
@@ -75,7 +75,7 @@ module _ (s : List ℕ) (at : ℕ) where
         → answered at (afterSb (drop (at + 2) s)) ≡ Found (Subnegotiation (getD s (at + 2) 0)) (count (drop (at + 3) s)) (tail + 2)
     unfolding answered closed count span written
     sb-found g e =
-        let l : at + length (written (subnegotiation (getD s (at + 2) 0) (undoubled (drop (at + 3) s)))) ≡ tail + 2 = simp length-append
+        let l : at + length (written (subnegotiation (getD s (at + 2) 0) (dataRun (drop (at + 3) s)))) ≡ tail + 2 = simp length-append
         (omega arith) in
         rw (opened-closed h k, pair-front s tail g, eq-eqb (getD s (tail + 1) 0) se e)
         (ap (Found (Subnegotiation (getD s (at + 2) 0)) (count (drop (at + 3) s))) l)
@@ -101,7 +101,7 @@ module _ (s : List ℕ) (at : ℕ) where
   looked h = rw (le-ltb (length s) at h)
 
   pub look-run : at ≤ length s → 0 < count (drop at s) → lookAt s at ≡ Found Data (count (drop at s)) (at + span (drop at s))
-  unfolding answered eventOf runOr count span written undoubled
+  unfolding answered eventOf runOr count span written dataRun
   look-run h k = looked h ∙ run-at (drop at s) k
     where
       runs : (d : List ℕ) (other : Front) → 0 < length d → answered at (runOr d other) ≡ Found Data (length d) (at + length (doubled d))
@@ -110,7 +110,7 @@ module _ (s : List ℕ) (at : ℕ) where
 
       run-at : (bs : List ℕ) → 0 < count bs → answered at (eventOf bs) ≡ Found Data (count bs) (at + span bs)
       run-at [] l = absurd (omega arith)
-      run-at (b ∷ bs) l = runs (undoubled (b ∷ bs)) (afterIac bs) l
+      run-at (b ∷ bs) l = runs (dataRun (b ∷ bs)) (afterIac bs) l
 
   pub look-end : at ≡ length s → lookAt s at ≡ End
   unfolding answered eventOf
@@ -123,5 +123,5 @@ module _ (s : List ℕ) (at : ℕ) where
   unfolding eventOf count runOr
   look-command h k =
       let l : at ≤ length s = omega arith in
-      let none : undoubled (getD s at 0 ∷ drop (at + 1) s) ≡ [] = ap undoubled (sym (at-front s at h)) ∙ empty (undoubled (drop at s)) k in
+      let none : dataRun (getD s at 0 ∷ drop (at + 1) s) ≡ [] = ap dataRun (sym (at-front s at h)) ∙ empty (dataRun (drop at s)) k in
       looked l ∙ rw (at-front s at h, none)

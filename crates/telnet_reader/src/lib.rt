@@ -5,11 +5,13 @@ ghost use Prim.Native.Nat.{_+_, _-_, _<_, _^_};
 ghost use lib.Dec.{leb};
 ghost use lib.ListN.{length, drop};
 ghost use Rattle.telnet.specs.Read.{afterIac, afterSb, afterVerb};
-ghost use Rattle.telnet_reader.specs.near.Lead.{leadIn};
+ghost use Rattle.telnet_reader.specs.internal.Lead.{leadIn};
 ghost use Rattle.telnet_reader.specs.Promise.{answered, lookAt, readAt};
 ghost use Rattle.octets.specs.Lent.{outcome};
 use telnet::Kind;
 use telnet::Lead;
+use telnet::PAYLOAD_LIMIT;
+use telnet::SE;
 use telnet::Verb;
 
 // What stands at a place: nothing more, an event with the number of bytes that it carries and the place after it, or a
@@ -29,11 +31,11 @@ fn command(s: &[u8], at: usize) -> Answer
     requires { ⌜ at < length (now s) ⌝ }
     ensures { λ r. ⌜ r ≡ answered at (afterIac (drop (at + 1) (now (s .entry)))) ⌝ }
 {
-    let behind = at + 1;
-    if behind == s.len() {
+    let after = at + 1;
+    if after == s.len() {
         return Answer::Refused(refusal::CUT_SHORT);
     }
-    let c = s[behind];
+    let c = s[after];
     match telnet_lead::lead_of(c) {
         Lead::Faulty => Answer::Refused(refusal::BAD_COMMAND),
         Lead::Opens => subnegotiation(s, at),
@@ -75,13 +77,13 @@ fn subnegotiation(s: &[u8], at: usize) -> Answer
     let payload = telnet_data::measure(s, at + 3);
     let count = payload.count;
     let end = payload.end;
-    if 1024 < count {
+    if PAYLOAD_LIMIT < count {
         return Answer::Refused(refusal::PAYLOAD_TOO_LONG);
     }
     if s.len() - end < 2 {
         return Answer::Refused(refusal::CUT_SHORT);
     }
-    if s[end + 1] != 240 {
+    if s[end + 1] != SE {
         return Answer::Refused(refusal::UNDOUBLED);
     }
     Answer::Found {

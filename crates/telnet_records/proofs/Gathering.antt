@@ -1,4 +1,4 @@
--- The laws of `specs/near/Gather.antt`: a record is gathered one event after another. Assumes nothing.
+-- The laws of `specs/internal/Gather.antt`: a record is gathered one event after another. Assumes nothing.
 use mathlib.Core.Path.{_≡_, refl, sym, ap, ap₂, _∙_}
 use mathlib.Core.Bool.{Bool, true, false}
 use mathlib.Core.List.{List, [], _++_}
@@ -20,12 +20,12 @@ use Rattle.telnet_records.specs.declared.Record.{Record}
 use Rattle.telnet_records.specs.declared.Record.the-variants.{Complete, Unfinished, Refused as NoRecord}
 use Rattle.telnet.specs.Event.{Event, run, command, negotiation, subnegotiation, kind, carriedBytes}
 use Rattle.telnet.specs.Write.{written}
-use Rattle.telnet.specs.Read.{undoubled, Front, noEvent, found, refused, eventOf}
+use Rattle.telnet.specs.Read.{dataRun, Front, noEvent, found, refused, eventOf}
 use Rattle.telnet.specs.Whole.{well, refusal}
 use Rattle.telnet.specs.Record.{isEndOfRecord, dataOf, Gathered, complete, noRecord, withEvent, gathered, recordOf}
 use Rattle.telnet_reader.specs.Promise.{answered, lookAt}
 use Rattle.telnet_records.specs.Promise.{answerNoRecord, kept, recordAt}
-use Rattle.telnet_records.specs.near.Gather.{dataLength, endsRecord, sized, sizedAt, recordData, dataAt, CanCopy, Copied, CanPass, Passed}
+use Rattle.telnet_records.specs.internal.Gather.{dataLength, endsRecord, sized, sizedAt, recordData, dataAt, CanCopy, Copied, CanPass, Passed}
 use Rattle.telnet.specs.Theorems.{readOn}
 use Rattle.telnet.proofs.Unroll.{unrolled}
 use Rattle.telnet_data.specs.declared.Extent.{Extent}
@@ -165,15 +165,15 @@ module _ (s : List ℕ) (i : ℕ) (h : i ≤ length s) where
 
   -- where data are left, the event's own stand at the place and the others after it
   pub data-goes : (k : Kind) (l x : ℕ) → lookAt s i ≡ Found k l x → 0 < length (dataAt s i)
-      → (dataLength k l ≡ length (undoubled (drop i s))) × (dataAt s i ≡ undoubled (drop i s) ++ dataAt s x)
+      → (dataLength k l ≡ length (dataRun (drop i s))) × (dataAt s i ≡ dataRun (drop i s) ++ dataAt s x)
   unfolding dataAt recordData
   data-goes k l x e some =
       let v = event-found k l x e in
       let p = event-stands (drop i s) (v .event) (v .is) in
-      let behind : drop (length (written (v .event))) (drop i s) ≡ drop x s = drop-drop (length (written (v .event))) i s ∙ ap (λ j. drop j s)
+      let after : drop (length (written (v .event))) (drop i s) ≡ drop x s = drop-drop (length (written (v .event))) i s ∙ ap (λ j. drop j s)
       (sym (v .its-next)) in (
         ap₂ dataLength (v .its-kind) (v .its-length) ∙ length-by-kind (v .event) ∙ ap length (p .data-is),
-        left (drop i s) (v .event) (v .is) some ∙ ap₂ (λ d bs. d ++ recordData (recordOf bs)) (p .data-is) behind,
+        left (drop i s) (v .event) (v .is) some ∙ ap₂ (λ d bs. d ++ recordData (recordOf bs)) (p .data-is) after,
       )
 
   -- the record from the place on, after n bytes of data, by what `look` answers there
@@ -221,7 +221,7 @@ module _ (s : List ℕ) (i : ℕ) (out : List ℕ) (to : ℕ) (p : CanCopy s i o
   pub run-copied : 0 < r .count → Copied s i out to l (record { count = to + r .count; end = r .end })
   unfolding count
   run-copied h =
-      let here = undoubled (drop i s) in
+      let here = dataRun (drop i s) in
       let at-run = look-run s i (p .within) (run-some s i out to e h) in
       let all = data-goes s i (p .within) Data (count (drop i s)) (i + span (drop i s)) at-run (p .some) .1 in
       let lengths = ap length all ∙ length-append here (dataAt s (i + span (drop i s))) in
@@ -229,15 +229,15 @@ module _ (s : List ℕ) (i : ℕ) (out : List ℕ) (to : ℕ) (p : CanCopy s i o
       let looked-at = at-run ∙ sym (ap₂ (Found Data) (run .told .counted) (run .told .ended)) in
       let f = found-further s i (p .within) Data (r .count) (r .end) looked-at in
       let d = data-goes s i (p .within) Data (r .count) (r .end) looked-at (p .some) in
-      let behind = dataAt s (r .end) in
-      let total = ap length (d .1) ∙ length-append here behind in
+      let after = dataAt s (r .end) in
+      let total = ap length (d .1) ∙ length-append here after in
       record {
         ahead = f .0;
         within = f .1;
         whole = omega (arith, total, d .0);
         same =
-            ap₂ (λ o n. overwrite o (to + n) behind) (run .lent) (d .0)
-            ∙ overwrite-append out to here behind (omega (arith, p .room, total)) ∙ ap (overwrite out to) (sym (d .1));
+            ap₂ (λ o n. overwrite o (to + n) after) (run .lent) (d .0)
+            ∙ overwrite-append out to here after (omega (arith, p .room, total)) ∙ ap (overwrite out to) (sym (d .1));
       }
 
   -- where there is none, the event adds nothing

@@ -4,7 +4,7 @@
 ghost use mathlib.Core.Path.{_≡_};
 ghost use Prim.Native.Nat.{_≤_};
 ghost use lib.ListN.{length};
-ghost use Rattle.telnet_records.specs.near.Gather.{dataLength, endsRecord, sizedAt, dataAt, Advanced, CanCopy, Copied, CanPass, Passed};
+ghost use Rattle.telnet_records.specs.internal.Gather.{dataLength, endsRecord, sizedAt, dataAt, Advanced, CanCopy, Copied, CanPass, Passed};
 ghost use Rattle.telnet_records.specs.Promise.{recordAt};
 ghost use Rattle.octets.specs.Lent.{outcome, overwrite};
 use telnet::Kind;
@@ -42,7 +42,7 @@ fn ends_record(kind: Kind) -> bool
 {
     match kind {
         Kind::Data => false,
-        Kind::Command(c) => c == 239,
+        Kind::Command(c) => c == telnet::EOR,
         Kind::Negotiation(_, _) => false,
         Kind::Subnegotiation(_) => false,
     }

@@ -5,8 +5,17 @@ ghost use Rattle.telnet.specs.Event.{event, code, run, command, negotiation, su
 ghost use Rattle.telnet.specs.Write.{isSimple};
 ghost use Rattle.telnet_writer.specs.Promise.{writeOf};
 ghost use Rattle.octets.specs.Lent.{outcome};
+use telnet::DO;
+use telnet::DONT;
+use telnet::EOR;
+use telnet::IAC;
 use telnet::Kind;
+use telnet::PAYLOAD_LIMIT;
+use telnet::SB;
+use telnet::SE;
 use telnet::Verb;
+use telnet::WILL;
+use telnet::WONT;
 
 // How many bytes an event was written with, or a refusal.
 pub enum Written {
@@ -18,17 +27,17 @@ fn code_of(verb: Verb) -> u8
     ensures { λ r. ⌜ r ≡ code verb ⌝ }
 {
     match verb {
-        Verb::Will => 251,
-        Verb::Wont => 252,
-        Verb::Do => 253,
-        Verb::Dont => 254,
+        Verb::Will => WILL,
+        Verb::Wont => WONT,
+        Verb::Do => DO,
+        Verb::Dont => DONT,
     }
 }
 
 fn is_simple(c: u8) -> bool
     ensures { λ r. ⌜ r ≡ isSimple c ⌝ }
 {
-    if c == 239 {
+    if c == EOR {
         return true;
     }
     if c < 241 {
@@ -44,7 +53,7 @@ fn write_run(bytes: &[u8], out: &mut [u8]) -> Written
         return Written::Refused(refusal::NOT_WRITABLE);
     }
     // `put_marked` answers `at` where the text does not fit; a run is not empty, so 0 means nothing else.
-    let n = octets_marked::put_marked(bytes, 255, 255, 255, out, 0);
+    let n = octets_marked::put_marked(bytes, IAC, IAC, IAC, out, 0);
     if n == 0 {
         return Written::Refused(refusal::NO_ROOM);
     }
@@ -60,7 +69,7 @@ fn write_command(c: u8, out: &mut [u8]) -> Written
     if out.len() < 2 {
         return Written::Refused(refusal::NO_ROOM);
     }
-    out[0] = 255;
+    out[0] = IAC;
     out[1] = c;
     Written::Wrote(2)
 }
@@ -72,7 +81,7 @@ fn write_negotiation(verb: Verb, option: u8, out: &mut [u8]) -> Written
     if out.len() < 3 {
         return Written::Refused(refusal::NO_ROOM);
     }
-    out[0] = 255;
+    out[0] = IAC;
     out[1] = c;
     out[2] = option;
     Written::Wrote(3)
@@ -81,19 +90,19 @@ fn write_negotiation(verb: Verb, option: u8, out: &mut [u8]) -> Written
 fn write_subnegotiation(option: u8, payload: &[u8], out: &mut [u8]) -> Written
     ensures { λ r. ⌜ outcome r (now (out .exit)) ≡ writeOf (subnegotiation option (now (payload .entry))) (now (out .entry)) ⌝ }
 {
-    if 1024 < payload.len() {
+    if PAYLOAD_LIMIT < payload.len() {
         return Written::Refused(refusal::PAYLOAD_TOO_LONG);
     }
-    let end = 3 + octets_marked::marked_length(payload, 255, 255);
+    let end = 3 + octets_marked::marked_length(payload, IAC, IAC);
     if out.len() < end + 2 {
         return Written::Refused(refusal::NO_ROOM);
     }
-    out[0] = 255;
-    out[1] = 250;
+    out[0] = IAC;
+    out[1] = SB;
     out[2] = option;
-    octets_marked::put_marked(payload, 255, 255, 255, out, 3);
-    out[end] = 255;
-    out[end + 1] = 240;
+    octets_marked::put_marked(payload, IAC, IAC, IAC, out, 3);
+    out[end] = IAC;
+    out[end + 1] = SE;
     Written::Wrote(end + 2)
 }
 

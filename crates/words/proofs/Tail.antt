@@ -11,7 +11,7 @@ use Rattle.octets.specs.Lent.{overwrite}
 use Rattle.octets.proofs.Overwrite.{overwrite-front, take-written, length-overwrite}
 use Rattle.words.specs.BigEndian.{bytes}
 use Rattle.words.specs.Padding.{zeroBits, padding}
-use Rattle.words.specs.near.Tail.{end, tail}
+use Rattle.words.specs.internal.Tail.{end, tail}
 use Rattle.words.proofs.BigEndian.{length-bytes}
 use Rattle.words.proofs.Padding.{zero-bytes}
 
@@ -32,8 +32,8 @@ module _ (b f : ℕ) (small : f < b) where
     abbrev gap : ℕ
     gap = end b f (length rest) - (length rest + 1 + f)
 
-    abbrev behind : ℕ
-    behind = 2 * b + f - end b f (length rest)
+    abbrev trailing : ℕ
+    trailing = 2 * b + f - end b f (length rest)
 
     -- the buffer with the message's bytes and the bit 1, and with the length too
     abbrev pub begun : List ℕ
@@ -45,20 +45,20 @@ module _ (b f : ℕ) (small : f < b) where
     bounds : (length rest + f < end b f (length rest)) × (end b f (length rest) ≤ 2 * b)
     bounds = (end-above (length rest), end-within (length rest) h)
 
-    zeros : blank ≡ replicate (length rest) 0 ++ 0 ∷ (replicate gap 0 ++ replicate behind 0)
+    zeros : blank ≡ replicate (length rest) 0 ++ 0 ∷ (replicate gap 0 ++ replicate trailing 0)
     zeros =
-        let e : length rest + suc (gap + behind) ≡ 2 * b = omega (arith, bounds) in
-        let inner = replicate-append-replicate {A = ℕ} gap behind 0 in
-        let outer = replicate-append-replicate {A = ℕ} (length rest) (suc (gap + behind)) 0 in
+        let e : length rest + suc (gap + trailing) ≡ 2 * b = omega (arith, bounds) in
+        let inner = replicate-append-replicate {A = ℕ} gap trailing 0 in
+        let outer = replicate-append-replicate {A = ℕ} (length rest) (suc (gap + trailing)) 0 in
         rw (inner, outer, e) z
 
     length-blank : length blank ≡ 2 * b
     length-blank = ap length z ∙ length-replicate (2 * b) 0
 
-    begun-is : begun ≡ rest ++ 128 ∷ (replicate gap 0 ++ replicate behind 0)
+    begun-is : begun ≡ rest ++ 128 ∷ (replicate gap 0 ++ replicate trailing 0)
     begun-is =
         let front : List ℕ = replicate (length rest) 0 in
-        let after : drop (length rest) blank ≡ 0 ∷ (replicate gap 0 ++ replicate behind 0) =
+        let after : drop (length rest) blank ≡ 0 ∷ (replicate gap 0 ++ replicate trailing 0) =
         ap (drop (length rest)) zeros ∙ drop-at front _ (length rest) (length-replicate (length rest) 0) in
         rw (overwrite-front blank rest, after) (set-at rest 0 _ 128 (length rest) refl)
 
@@ -80,8 +80,8 @@ module _ (b f : ℕ) (small : f < b) where
         let mark : List ℕ = 128 ∷ replicate gap 0 in
         let e : n ≡ n - f + length (bytes f ℓ) = rw (length-bytes f ℓ) (omega (arith, bounds)) in
         let l : length (rest ++ mark) ≡ n - f = simp (length-append, length-replicate) (omega (arith, bounds)) in
-        let whole = begun-is ∙ sym (append-assoc rest mark (replicate behind 0)) in
-        let front = ap (take (n - f)) whole ∙ take-at (rest ++ mark) (replicate behind 0) (n - f) l in
+        let whole = begun-is ∙ sym (append-assoc rest mark (replicate trailing 0)) in
+        let front = ap (take (n - f)) whole ∙ take-at (rest ++ mark) (replicate trailing 0) (n - f) l in
         ap (λ m. take m (finished ℓ)) e ∙ take-written begun (n - f) (bytes f ℓ) (omega (arith, length-begun, bounds))
         ∙ ap (λ x. x ++ bytes f ℓ) front ∙ append-assoc rest mark (bytes f ℓ)
 

@@ -3,7 +3,7 @@ use mathlib.Core.Path.{_≡_, sym, _∙_}
 use mathlib.Core.Bool.{Bool, true, false}
 use borrow.Author.Needs.{needs}
 use Rattle.env.specs.Variable.{repeated}
-use Rattle.env.specs.Numbers.{held}
+use Rattle.env.specs.Numbers.{variablesHeld}
 use Rattle.env_delivery.specs.Promise.{deliverRead}
 use Rattle.env_delivery.proofs.deliver.Statement.{statement}
 use Rattle.env_delivery.proofs.deliver.Tie as tie
@@ -13,7 +13,7 @@ repeats-requires c κs = search needs
 
 -- what is known of repeats, by what `repeats` answered
 told : (c : tie.After-repeats) → let a = c .before .before .before .before .before .args in
-    (t : Bool) → c .repeats .result ≡ t → repeated (held (a .texts .now) (a .records .now)) ≡ t
+    (t : Bool) → c .repeats .result ≡ t → repeated (variablesHeld (a .texts .now) (a .records .now)) ≡ t
 told c t e = sym (c .repeats .ensures) ∙ e
 
 returns : tie.Need-returns

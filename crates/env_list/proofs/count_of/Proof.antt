@@ -1,6 +1,6 @@
 -- `env_list::count_of` meets its contract. Assumes nothing.
 use borrow.Author.Needs.{needs}
-use Rattle.env_list.specs.near.Firsts.{countOf}
+use Rattle.env_list.specs.internal.Firsts.{countOf}
 use Rattle.env_list.proofs.count_of.Statement.{statement}
 use Rattle.env_list.proofs.count_of.Tie as tie
 

@@ -46,7 +46,7 @@ use denote.Triple.Spec.{Meets, tripleOf}
 use denote.Triple.Table.{entered, cited}
 use denote.Triple.Walked.{says, Stays, stay-none-slice, gave-slice, walkOf, Walks, ends-at, walked, goes-none-slice, goes-gave-slice, walk-meets}
 use Rattle.env.specs.Numbers.{listLimit}
-use Rattle.env_list.specs.near.Firsts.{countOf, Numbered}
+use Rattle.env_list.specs.internal.Firsts.{countOf, Numbered}
 use Rattle.env.specs.declared.VariableRecord.{VariableRecord}
 use Rattle.env.proofs.VariableRecord as T
 use Rattle.env_delivery.specs.declared.Answer.{Answer}

@@ -46,7 +46,7 @@ use denote.Triple.Spec.{Meets, tripleOf}
 use denote.Triple.Table.{entered, cited}
 use denote.Triple.Walked.{says, needs, Stays, stay-slice, stay-none, stay-none-slice, walkOf, Walks, ends-at, walked, goes-slice, goes-none, goes-none-slice, walk-meets}
 use borrow.Author.Needs.{scaled-fits}
-use Rattle.env_list.specs.near.Firsts.{firstRecords}
+use Rattle.env_list.specs.internal.Firsts.{firstRecords}
 use Rattle.env.specs.declared.VariableRecord.{VariableRecord}
 use Rattle.env_records.specs.Records.{recordAt}
 use Rattle.env.proofs.VariableRecord as T

@@ -8,14 +8,14 @@ use borrow.Author.Needs.{needs}
 use lib.ListN.{length, drop}
 use Rattle.env.specs.Variable.{is, among}
 use Rattle.env_records.specs.Records.{recordAt}
-use Rattle.env.specs.Numbers.{recordWidth, variableOf, held}
+use Rattle.env.specs.Numbers.{recordWidth, variableOf, variablesHeld}
 use Rattle.env_records.proofs.Steps.{among-step, among-end, tested}
 use Rattle.env_records.proofs.occurs.Statement.{statement}
 use Rattle.env_records.proofs.occurs.Tie as tie
 
 abbrev Inv-loop : tie.InvT-loop
 Inv-loop bytes numbers from kind name i₀ i =
-    among kind name (held bytes (drop (recordWidth * i) numbers)) ≡ among kind name (held bytes (drop (recordWidth * from) numbers))
+    among kind name (variablesHeld bytes (drop (recordWidth * i) numbers)) ≡ among kind name (variablesHeld bytes (drop (recordWidth * from) numbers))
 
 abbrev μ-loop : tie.MeasureT-loop
 μ-loop bytes numbers from kind name i₀ i = length numbers / recordWidth - i

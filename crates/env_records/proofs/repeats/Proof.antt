@@ -6,13 +6,13 @@ use native.Mathlib.Omega.{arith}
 use borrow.Author.Needs.{needs}
 use lib.ListN.{length, drop}
 use Rattle.env.specs.Variable.{repeated}
-use Rattle.env.specs.Numbers.{recordWidth, held}
+use Rattle.env.specs.Numbers.{recordWidth, variablesHeld}
 use Rattle.env_records.proofs.Steps.{repeated-step, repeated-end}
 use Rattle.env_records.proofs.repeats.Statement.{statement}
 use Rattle.env_records.proofs.repeats.Tie as tie
 
 abbrev Inv-loop : tie.InvT-loop
-Inv-loop bytes numbers i₀ i = repeated (held bytes (drop (recordWidth * i) numbers)) ≡ repeated (held bytes numbers)
+Inv-loop bytes numbers i₀ i = repeated (variablesHeld bytes (drop (recordWidth * i) numbers)) ≡ repeated (variablesHeld bytes numbers)
 
 abbrev μ-loop : tie.MeasureT-loop
 μ-loop bytes numbers i₀ i = length numbers / recordWidth - i

@@ -6,7 +6,7 @@ use Prim.Native.Nat.{_+_, _-_, _≤_}
 use native.Mathlib.Omega.{arith}
 use lib.ListN.{length, drop}
 use Rattle.env_text.specs.Text.{textOf}
-use Rattle.env_text.specs.near.Scan.{IsWidth}
+use Rattle.env_text.specs.internal.Scan.{IsWidth}
 use Rattle.env_text.proofs.Scanning.{Next, next, ended}
 use Rattle.env_text.proofs.extent_at.Statement.{statement}
 use Rattle.env_text.proofs.extent_at.Tie as tie
@@ -15,7 +15,7 @@ use Rattle.env_text.proofs.width_at.Reads as width-at-reads
 abbrev Inv-loop : tie.InvT-loop
 Inv-loop s from i₀ n₀ w₀ i n w =
     IsWidth s i w × (from + n ≤ i) × (i ≤ length s) × (n + length (textOf (drop i s) .bytes) ≡ length (textOf (drop from s) .bytes))
-    × (textOf (drop i s) .behind ≡ textOf (drop from s) .behind)
+    × (textOf (drop i s) .after ≡ textOf (drop from s) .after)
 
 abbrev μ-loop : tie.MeasureT-loop
 μ-loop s from i₀ n₀ w₀ i n w = length s - i
@@ -45,7 +45,7 @@ loop-less c = omega (arith, passed (c .before))
 loop-again : tie.Need-loop-again Inv-loop μ-loop
 loop-again c =
     let n = passed (c .before) in
-    (c .width-at2 .ensures, omega (arith, n), omega (arith, n), omega (arith, n), n .behind ∙ c .before .before .loop .inv .4)
+    (c .width-at2 .ensures, omega (arith, n), omega (arith, n), omega (arith, n), n .after ∙ c .before .before .loop .inv .4)
 
 returns : tie.Need-returns Inv-loop μ-loop
 returns c =

@@ -8,7 +8,7 @@ use lib.ListN.{length, getD, drop}
 use borrow.Author.Tests.{not-true, not-false}
 use Rattle.env.specs.Variable.{isKind, variableLimit}
 use Rattle.refusal.specs.Refusal.{noVariable, badEscape, tooManyVariables}
-use Rattle.env_variables.specs.near.Found.{buffers}
+use Rattle.env_variables.specs.internal.Found.{buffers}
 use Rattle.env_text.specs.Text.{textOf, endsText}
 use Rattle.octets.proofs.Front.{empty, to-the-end}
 use Rattle.env_variables.proofs.Turning.{from-nil, from-value, from-other, from-kind, names-full, names-broken, names-empty, name-none, name-fault, name-turn}

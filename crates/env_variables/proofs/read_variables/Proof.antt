@@ -4,14 +4,14 @@ use mathlib.Core.Path.{_∙_}
 use native.Mathlib.Nat.{sub-zero}
 use native.Mathlib.Omega.{arith}
 use borrow.Author.Needs.{needs}
-use Rattle.env_variables.proofs.Reading.{name-fault, name-variables, long-behind, fault-behind, variables-behind}
+use Rattle.env_variables.proofs.Reading.{name-fault, name-variables, long-after, fault-after, variables-after}
 use Rattle.env_variables.proofs.read_variables.Statement.{statement}
 use Rattle.env_variables.proofs.read_variables.Tie as tie
 
 returns : tie.Need-returns
 returns c =
     let a = c .before .before .before .before .args in
-    long-behind (a .first) (a .rest .now) (a .bytes .now) (a .numbers .now) (omega arith)
+    long-after (a .first) (a .rest .now) (a .bytes .now) (a .numbers .now) (omega arith)
 
 find-variables-requires : tie.Need-find-variables-requires
 find-variables-requires c κs = search needs
@@ -23,7 +23,7 @@ returns-2 : tie.Need-returns-2
 returns-2 c =
     let a = c .before .before .before .before .before .before .before .before .before .before .args in
     let found = name-fault _ (c .before .n .given .0 .0) 0 0 _ _ _ (c .before .before .before .find-variables .ensures) (c .before .n .given .1) in
-    fault-behind (a .first) (a .rest .now) (a .bytes .now) (a .numbers .now) _ (omega (arith, c .before .before .before .before .before .before .if1 .left)) found
+    fault-after (a .first) (a .rest .now) (a .bytes .now) (a .numbers .now) _ (omega (arith, c .before .before .before .before .before .before .if1 .left)) found
 
 enum-known-count : tie.Need-enum-known-count
 enum-known-count c = search needs
@@ -68,7 +68,7 @@ returns-3 : tie.Need-returns-3
 returns-3 c =
     let a = c .before .before .before .before .before .before .before .before .before .before .before .before .before .before .before .before .before .before .before .before .before .args in
     let all = name-variables _ _ _ _ _ _ (c .before .before .before .before .before .before .before .before .before .before .before .before .before .before .find-variables .ensures) (c .before .before .before .before .before .before .before .before .before .before .before .before .count .given .1) in
-    let whole = variables-behind (a .first) (a .rest .now) (a .bytes .now) (a .numbers .now) (all .3 .all) (omega (arith, c .before .before .before .before .before .before .before .before .before .before .before .before .before .before .before .before .before .if1 .left)) (all .3 .those) in
+    let whole = variables-after (a .first) (a .rest .now) (a .bytes .now) (a .numbers .now) (all .3 .all) (omega (arith, c .before .before .before .before .before .before .before .before .before .before .before .before .before .before .before .before .before .if1 .left)) (all .3 .those) in
     c .before .before .before .before .deliver .ensures ∙ rw (sub-zero, sub-zero, all .3 .texts, all .3 .records) whole
 
 pub read-variables-spec : {M : Type 1} → statement M

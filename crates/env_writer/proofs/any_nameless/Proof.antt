@@ -9,7 +9,7 @@ use lib.ListN.{length, drop}
 use borrow.Author.Needs.{needs}
 use borrow.Author.Tests.{eq-eqb, ne-eqb}
 use Rattle.env.specs.Write.{nameless}
-use Rattle.env.specs.Numbers.{recordWidth, held, placed}
+use Rattle.env.specs.Numbers.{recordWidth, variablesHeld, placed}
 use Rattle.env_writer.proofs.WritingRecords.{good-from, nameless-from, nameless-none}
 use Rattle.env_writer.proofs.any_nameless.Statement.{statement}
 use Rattle.env_writer.proofs.any_nameless.Tie as tie
@@ -17,7 +17,7 @@ use Rattle.env_writer.proofs.any_nameless.Tie as tie
 abbrev Inv-loop : tie.InvT-loop
 Inv-loop numbers i₀ i =
     (bytes : List ℕ) → placed bytes numbers ≡ true
-    → (placed bytes (drop (recordWidth * i) numbers) ≡ true) × (nameless (held bytes numbers) ≡ nameless (held bytes (drop (recordWidth * i) numbers)))
+    → (placed bytes (drop (recordWidth * i) numbers) ≡ true) × (nameless (variablesHeld bytes numbers) ≡ nameless (variablesHeld bytes (drop (recordWidth * i) numbers)))
 
 abbrev μ-loop : tie.MeasureT-loop
 μ-loop numbers i₀ i = length numbers / recordWidth - i
@@ -33,12 +33,12 @@ tested : (c : tie.After-record-at Inv-loop μ-loop)
     → let numbers = c .before .before .before .before .args .numbers .now in
     let i = c .before .before .loop .i in
     (bytes : List ℕ) → placed bytes numbers ≡ true
-    → nameless (held bytes numbers) ≡ (eqb (c .record-at .result .«name_length») 0 || nameless (held bytes (drop (recordWidth * (i + 1)) numbers)))
+    → nameless (variablesHeld bytes numbers) ≡ (eqb (c .record-at .result .«name_length») 0 || nameless (variablesHeld bytes (drop (recordWidth * (i + 1)) numbers)))
 tested c =
     let numbers = c .before .before .before .before .args .numbers .now in
     let l = c .before .before .loop in
     λ bytes e.
-    let rest = nameless (held bytes (drop (recordWidth * (l .i + 1)) numbers)) in
+    let rest = nameless (variablesHeld bytes (drop (recordWidth * (l .i + 1)) numbers)) in
     l .inv bytes e .1 ∙ nameless-from bytes numbers (l .i) (c .before .loop-test .taken) (l .inv bytes e .0)
     ∙ ap (λ r. eqb (r .«name_length») 0 || rest) (sym (c .record-at .ensures))
 

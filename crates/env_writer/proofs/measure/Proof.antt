@@ -7,7 +7,7 @@ use native.Mathlib.Omega.{arith}
 use lib.ListN.{length, drop}
 use borrow.Author.Needs.{needs}
 use Rattle.env.specs.Write.{writtenVariable, writtenVariables}
-use Rattle.env.specs.Numbers.{recordWidth, variableOf, held, isPlaced, placed}
+use Rattle.env.specs.Numbers.{recordWidth, variableOf, variablesHeld, isPlaced, placed}
 use Rattle.telnet.specs.Event.{payloadLimit}
 use Rattle.env_writer.proofs.WritingRecords.{good-from, length-written-from, written-none}
 use Rattle.env_writer.proofs.measure.Statement.{statement}
@@ -16,8 +16,8 @@ use Rattle.env_writer.proofs.measure.Tie as tie
 abbrev Inv-loop : tie.InvT-loop
 Inv-loop bytes numbers n₀ i₀ n i =
     (n ≤ payloadLimit + 1) × (placed bytes (drop (recordWidth * i) numbers) ≡ true)
-    × (min (payloadLimit + 1) (n + length (writtenVariables (held bytes (drop (recordWidth * i) numbers))))
-    ≡ min (payloadLimit + 1) (1 + length (writtenVariables (held bytes numbers))))
+    × (min (payloadLimit + 1) (n + length (writtenVariables (variablesHeld bytes (drop (recordWidth * i) numbers))))
+    ≡ min (payloadLimit + 1) (1 + length (writtenVariables (variablesHeld bytes numbers))))
 
 abbrev μ-loop : tie.MeasureT-loop
 μ-loop bytes numbers n₀ i₀ n i = length numbers / recordWidth - i

@@ -7,7 +7,7 @@ use native.Mathlib.Omega.{arith}
 use lib.ListN.{length, drop}
 use borrow.Author.Needs.{needs}
 use Rattle.env.specs.Write.{writtenVariable, writtenVariables}
-use Rattle.env.specs.Numbers.{recordWidth, variableOf, held, isPlaced, placed}
+use Rattle.env.specs.Numbers.{recordWidth, variableOf, variablesHeld, isPlaced, placed}
 use Rattle.env_records.specs.Records.{recordAt}
 use Rattle.octets.specs.Lent.{overwrite}
 use Rattle.octets.proofs.Overwrite.{overwrite-nil, overwrite-append}
@@ -18,8 +18,8 @@ use Rattle.env_writer.proofs.put_all.Tie as tie
 abbrev Inv-loop : tie.InvT-loop
 Inv-loop bytes numbers out₀ i₀ at₀ out i at =
     (placed bytes (drop (recordWidth * i) numbers) ≡ true) × (length out ≡ length out₀)
-    × (at + length (writtenVariables (held bytes (drop (recordWidth * i) numbers))) ≤ length out₀)
-    × (overwrite out at (writtenVariables (held bytes (drop (recordWidth * i) numbers))) ≡ overwrite out₀ 1 (writtenVariables (held bytes numbers)))
+    × (at + length (writtenVariables (variablesHeld bytes (drop (recordWidth * i) numbers))) ≤ length out₀)
+    × (overwrite out at (writtenVariables (variablesHeld bytes (drop (recordWidth * i) numbers))) ≡ overwrite out₀ 1 (writtenVariables (variablesHeld bytes numbers)))
 
 abbrev μ-loop : tie.MeasureT-loop
 μ-loop bytes numbers out₀ i₀ at₀ out i at = length numbers / recordWidth - i
@@ -61,7 +61,7 @@ loop-again c =
     let this = ap (λ v. writtenVariable (variableOf bytes v)) (r .record-at .ensures) in
     let n = length-written-from bytes numbers (l .i) t in
     let one = writtenVariable (variableOf bytes (recordAt numbers (l .i))) in
-    let rest = writtenVariables (held bytes (drop (recordWidth * (l .i + 1)) numbers)) in
+    let rest = writtenVariables (variablesHeld bytes (drop (recordWidth * (l .i + 1)) numbers)) in
     let place : p .result ≡ l .at + length one = p .ensures .place ∙ ap (λ w. l .at + length w) this in
     let variable = overwrite-append (l .out) (l .at) one rest (omega (arith, n, l .inv .1, l .inv .2)) in (
       good-from bytes numbers (l .i) t (l .inv .0) .1,

@@ -8,7 +8,7 @@ use borrow.Author.Needs.{needs}
 use borrow.Author.Tests.{not-true, not-false}
 use Rattle.env.specs.Variable.{isFirst, variableLimit, repeated}
 use Rattle.env.specs.Write.{nameless}
-use Rattle.env.specs.Numbers.{recordWidth, held, placed}
+use Rattle.env.specs.Numbers.{recordWidth, variablesHeld, placed}
 use Rattle.env_writer.proofs.WritingAnswer.{not-first, not-placed, no-name, too-many, twice, too-long, no-space, space, wrote}
 use Rattle.env_writer.proofs.write.Statement.{statement}
 use Rattle.env_writer.proofs.write.Tie as tie
@@ -59,7 +59,7 @@ returns-3 c =
     no-name (a .first) (a .bytes .now) (a .numbers .now) (a .out .now) (begins (p .before .before)) (good p)
     (sym (c .before .any-nameless .ensures (a .bytes .now) (good p)) ∙ c .if3 .taken)
 
-named : (c : tie.Else3) → nameless (held (start₃ c .args .bytes .now) (start₃ c .args .numbers .now)) ≡ false
+named : (c : tie.Else3) → nameless (variablesHeld (start₃ c .args .bytes .now) (start₃ c .args .numbers .now)) ≡ false
 named c = sym (c .before .any-nameless .ensures (start₃ c .args .bytes .now) (good (c .before .before))) ∙ c .if3 .left
 
 returns-4 : tie.Need-returns-4
@@ -83,9 +83,9 @@ returns-5 c =
 record Cleared (c : tie.Else5) : Type 0 where
   begins : isFirst (start₅ c .args .first) ≡ true
   good : placed (start₅ c .args .bytes .now) (start₅ c .args .numbers .now) ≡ true
-  named : nameless (held (start₅ c .args .bytes .now) (start₅ c .args .numbers .now)) ≡ false
+  named : nameless (variablesHeld (start₅ c .args .bytes .now) (start₅ c .args .numbers .now)) ≡ false
   few : length (start₅ c .args .numbers .now) / recordWidth ≤ variableLimit
-  distinct : repeated (held (start₅ c .args .bytes .now) (start₅ c .args .numbers .now)) ≡ false
+  distinct : repeated (variablesHeld (start₅ c .args .bytes .now) (start₅ c .args .numbers .now)) ≡ false
 
 cleared : (c : tie.Else5) → Cleared c
 cleared c =

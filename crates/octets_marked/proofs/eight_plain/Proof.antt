@@ -7,7 +7,7 @@ use Prim.Native.Nat.{ℕ, _-_, _≤_}
 use native.Mathlib.Nat.{add-zero}
 use native.Mathlib.Omega.{arith}
 use borrow.Author.Needs.{needs}
-use Rattle.octets_marked.specs.near.Turn.{Plain}
+use Rattle.octets_marked.specs.internal.Turn.{Plain}
 use Rattle.octets_marked.proofs.Turn.{plain-more}
 use Rattle.octets_marked.proofs.eight_plain.Statement.{statement}
 use Rattle.octets_marked.proofs.eight_plain.Tie as tie

@@ -7,7 +7,7 @@ use native.Mathlib.Omega.{arith}
 use borrow.Author.Needs.{needs}
 use lib.ListN.{length, getD}
 use Rattle.octets_marked.specs.Marked.{marked}
-use Rattle.octets_marked.specs.near.Turn.{Further}
+use Rattle.octets_marked.specs.internal.Turn.{Further}
 use Rattle.octets_marked.proofs.Marked.{marked-at, length-marked-at}
 use Rattle.octets_marked.proofs.Turn.{piece-put, then-further}
 use Rattle.octets_marked.proofs.put_bytes.Statement.{statement}

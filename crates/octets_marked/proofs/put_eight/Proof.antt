@@ -5,7 +5,7 @@ use Prim.Native.Nat.{_+_}
 use native.Mathlib.Omega.{arith}
 use borrow.Author.Needs.{needs}
 use lib.ListN.{take, drop}
-use Rattle.octets_marked.specs.near.Turn.{Plain}
+use Rattle.octets_marked.specs.internal.Turn.{Plain}
 use Rattle.octets_marked.proofs.Turn.{length-part, length-piece, piece-put}
 use Rattle.octets_marked.proofs.put_eight.Statement.{statement}
 use Rattle.octets_marked.proofs.put_eight.Tie as tie

@@ -8,7 +8,7 @@ use borrow.Author.Needs.{needs}
 use borrow.Author.Tests.{ltb-true, ltb-false}
 use Rattle.octets.specs.Lent.{outcome}
 use Rattle.octets_marked.specs.Marked.{marked}
-use Rattle.octets_marked.specs.near.Turn.{Further}
+use Rattle.octets_marked.specs.internal.Turn.{Further}
 use Rattle.octets_marked.proofs.Marked.{put-fits, put-refused}
 use Rattle.octets_marked.proofs.Turn.{then-further, all-put}
 use Rattle.octets_marked.proofs.put_marked.Statement.{statement}

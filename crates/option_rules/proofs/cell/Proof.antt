@@ -3,7 +3,7 @@ use mathlib.Core.Path.{_≡_, refl, ap}
 use Prim.Native.Nat.{ℕ, zero, suc}
 use Rattle.option_rules.specs.declared.Command.the-variants.{Off}
 use Rattle.option_rules.specs.declared.Sending.the-variants.{Command}
-use Rattle.option_rules.specs.near.Sends.{sendingOf}
+use Rattle.option_rules.specs.internal.Sends.{sendingOf}
 use Rattle.option_rules.proofs.cell.Statement.{statement}
 use Rattle.option_rules.proofs.cell.Tie as tie
 

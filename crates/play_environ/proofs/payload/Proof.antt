@@ -4,7 +4,7 @@ use borrow.Author.Needs.{needs}
 use Rattle.octets.specs.Lent.{Outcome, overwrite}
 use Rattle.octets.specs.Same.{same}
 use Rattle.octets.specs.Part.{part}
-use Rattle.env.specs.Numbers.{recordsFrom, recordsOf, held, fits, allPlaced, placed}
+use Rattle.env.specs.Numbers.{recordsFrom, recordsOf, variablesHeld, fits, allPlaced, placed}
 use Rattle.env.specs.Variable.{isFirst, isKind, is, among, repeated}
 use Rattle.env.specs.Write.{escaped, writtenVariable, writtenVariables, isEmpty, nameless, objection}
 use Rattle.env_writer.specs.declared.Written.{Written}
@@ -22,7 +22,7 @@ write-requires : tie.Need-write-requires
 write-requires c κs = search needs
 
 returns : tie.Need-returns
-unfolding writeInto isFirst isKind is among recordsFrom recordsOf held fits allPlaced placed put objection escaped writtenVariable writtenVariables isEmpty nameless repeated same part overwrite
+unfolding writeInto isFirst isKind is among recordsFrom recordsOf variablesHeld fits allPlaced placed put objection escaped writtenVariable writtenVariables isEmpty nameless repeated same part overwrite
 returns c = ap (λ (o : Outcome Written). o .lent) (c .before .write .ensures)
 
 pub payload-spec : {M : Type 1} → statement M

@@ -3,7 +3,7 @@
 use mathlib.Core.Path.{_≡_, ap, ap₂, _∙_, sym}
 use Prim.Native.Nat.{_-_, _≤_}
 use native.Mathlib.Omega.{arith}
-use Rattle.play_options.specs.near.Turns.{optionAt, whoseAt, isOn, allOn}
+use Rattle.play_options.specs.internal.Turns.{optionAt, whoseAt, isOn, allOn}
 use Rattle.option_sides.specs.Session.{sideAt}
 use Rattle.play_options.proofs.Turning.{one-on, one-off, none-left}
 use borrow.Author.Needs.{needs}

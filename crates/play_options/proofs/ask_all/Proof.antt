@@ -6,7 +6,7 @@ use native.Mathlib.Omega.{arith}
 use lib.ListN.{length}
 use Rattle.option_rules.specs.declared.Command.the-variants.{On}
 use Rattle.option_line.specs.Line.{requestedOn}
-use Rattle.play_options.specs.near.Turns.{turns, asks}
+use Rattle.play_options.specs.internal.Turns.{turns, asks}
 use Rattle.play_options.proofs.Turning.{turned, no-turns}
 use borrow.Author.Needs.{needs}
 use Rattle.play_options.proofs.ask_all.Statement.{statement}

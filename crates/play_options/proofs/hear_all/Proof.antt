@@ -3,7 +3,7 @@ use mathlib.Core.Path.{_≡_, _∙_, sym}
 use Prim.Native.Nat.{_-_, _≤_}
 use native.Mathlib.Omega.{arith}
 use lib.ListN.{length}
-use Rattle.play_options.specs.near.Turns.{turns, hears}
+use Rattle.play_options.specs.internal.Turns.{turns, hears}
 use Rattle.play_options.proofs.Turning.{turned, no-turns}
 use borrow.Author.Needs.{needs}
 use Rattle.play_options.proofs.hear_all.Statement.{statement}

@@ -2,7 +2,7 @@
 use mathlib.Core.Path.{ap, ap₂, _∙_}
 use Prim.Native.Nat.{ℕ}
 use Rattle.octets.specs.Lent.{Outcome}
-use Rattle.play_order.specs.Order.{replied, sentBehind, completed}
+use Rattle.play_order.specs.Order.{replied, sentAfter, completed}
 use borrow.Author.Needs.{needs}
 use Rattle.play_order.proofs.play.Statement.{statement}
 use Rattle.play_order.proofs.play.Tie as tie
@@ -32,7 +32,7 @@ returns c =
     let reply = c .before .before .before .before .before .before .reply .ensures ∙ ap (λ (o : Outcome ℕ). replied (printed .last .0) (o .answer) (a .up .now) (a .up-at)) (printed .ensures) in
     record {
       sent = ap (λ (o : Outcome ℕ). o .lent) (printed .ensures);
-      heardBack = c .before .before .complete .ensures ∙ ap₂ (λ l o. sentBehind (completed l) o) (c .before .before .before .before .before .before .before .before .before .take .ensures) reply;
+      heardBack = c .before .before .complete .ensures ∙ ap₂ (λ l o. sentAfter (completed l) o) (c .before .before .before .before .before .before .before .before .before .take .ensures) reply;
     }
 
 pub play-spec : {M : Type 1} → statement M

@@ -11,7 +11,7 @@ use Rattle.profile.specs.Profile.{version1}
 use Rattle.profile.specs.Table.{profileCount, profileAt}
 use Rattle.profile_table.specs.declared.Found.{Found}
 use Rattle.profile_table.specs.declared.Step.the-variants.{Next, Stop}
-use Rattle.profile_table.specs.near.Steps.{IsNext, recordsBehind, foundHere, continued, scanned}
+use Rattle.profile_table.specs.internal.Steps.{IsNext, recordsAfter, foundHere, continued, scanned}
 use Rattle.profile_table.proofs.Stepping.{long, ahead, kept-name, further, stepped, ended}
 use Rattle.profile_table.proofs.scan_records.Statement.{statement}
 use Rattle.profile_table.proofs.scan_records.Tie as tie
@@ -25,8 +25,8 @@ record Far (table name : List ℕ) (at before end count : ℕ) (found : Found) :
   ordered : before ≤ end
   inside : end ≤ length table
   few : count ≤ profileCount
-  whole : continued name count at found (recordsBehind count (take (end - before) (drop before table)) (drop at table))
-      ≡ scanned name (recordsBehind 0 [] (drop 1 table))
+  whole : continued name count at found (recordsAfter count (take (end - before) (drop before table)) (drop at table))
+      ≡ scanned name (recordsAfter 0 [] (drop 1 table))
 
 abbrev Inv-loop : tie.InvT-loop
 Inv-loop table name at₀ before₀ before-end₀ count₀ found₀ at before before-end count found = Far table name at before before-end count found
@@ -157,7 +157,7 @@ loop-again c =
       inside = omega arith;
       few = omega (arith, is .few);
       whole =
-          ap₂ (λ (f : Found) (b : List ℕ). continued name more at f (recordsBehind more b (drop at table))) found here
+          ap₂ (λ (f : Found) (b : List ℕ). continued name more at f (recordsAfter more b (drop at table))) found here
           ∙ sym (further table name (l .at) (l .count) n (l .found) before is)
           ∙ l .inv .whole;
     }

@@ -1,7 +1,7 @@
 -- `profile_table::scan_table` meets its contract: 30 by the first byte alone. Assumes nothing.
 use mathlib.Core.Path.{sym, ap, _∙_}
 use native.Mathlib.Omega.{arith}
-use Rattle.profile_table.specs.near.Steps.{scanned}
+use Rattle.profile_table.specs.internal.Steps.{scanned}
 use Rattle.profile_table.proofs.Whole.{no-table, other-version, by-records}
 use borrow.Author.Needs.{needs}
 use Rattle.profile_table.proofs.scan_table.Statement.{statement}

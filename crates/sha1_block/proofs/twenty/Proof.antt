@@ -6,7 +6,7 @@ use Prim.Native.Nat.{_+_, _-_, _*_, _≤_}
 use native.Mathlib.Omega.{arith}
 use lib.ListN.{length, length-set}
 use Rattle.sha1_block.specs.Held.{five}
-use Rattle.sha1_block.specs.near.Between.{Carried}
+use Rattle.sha1_block.specs.internal.Between.{Carried}
 use Rattle.sha1_block.proofs.Rounds.{same-round, carried-one}
 use borrow.Author.Needs.{needs}
 use Rattle.sha1_block.proofs.twenty.Statement.{statement}

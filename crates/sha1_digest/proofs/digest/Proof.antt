@@ -5,7 +5,7 @@ use native.Mathlib.Omega.{arith}
 use lib.ListN.{length, take, length-drop}
 use lib.Seq.{take-all, length-take-le}
 use Rattle.sha1.specs.Sha1.{digestOf}
-use Rattle.words.specs.near.Tail.{end, tail}
+use Rattle.words.specs.internal.Tail.{end, tail}
 use Rattle.sha1_digest.proofs.Last.{left, by-tail}
 use borrow.Author.Needs.{needs}
 use Rattle.sha1_digest.proofs.digest.Statement.{statement}

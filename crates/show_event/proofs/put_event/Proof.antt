@@ -3,14 +3,14 @@ use native.Mathlib.Omega.{arith}
 use borrow.Author.Needs.{needs}
 use Rattle.telnet.specs.Event.{event}
 use Rattle.telnet_writer.specs.declared.Written.the-variants.{Wrote, Refused}
-use Rattle.show_event.proofs.Placing.{behind-the-end, put-back, wrote-within}
+use Rattle.show_event.proofs.Placing.{after-the-end, put-back, wrote-within}
 use Rattle.show_event.proofs.put_event.Statement.{statement}
 use Rattle.show_event.proofs.put_event.Tie as tie
 
 returns : tie.Need-returns
 returns c =
     let a = c .before .before .before .args in
-    behind-the-end (event (a .kind) (a .payload .now)) (a .line .now) (a .at) (omega arith)
+    after-the-end (event (a .kind) (a .payload .now)) (a .line .now) (a .at) (omega arith)
 
 part-write-start : tie.Need-part-write-start
 part-write-start c = search needs

@@ -17,13 +17,13 @@ say-line-requires c κs = search needs
 say-meaning-requires : tie.Need-say-meaning-requires
 say-meaning-requires c κs = search needs
 
-behind-requires : tie.Need-behind-requires
-behind-requires c κs = search needs
+after-requires : tie.Need-after-requires
+after-requires c κs = search needs
 
 returns : tie.Need-returns
 returns c =
     let told = c .before .before .before .before .look .ensures in
-    c .behind .ensures ∙ ap (nextPlace (c .before .before .before .before .before .before .args .at)) told
+    c .after .ensures ∙ ap (nextPlace (c .before .before .before .before .before .before .args .at)) told
 
 pub say-event-spec : {M : Type 1} → statement M
 say-event-spec =
@@ -33,5 +33,5 @@ say-event-spec =
     say-sender-requires
     say-line-requires
     say-meaning-requires
-    behind-requires
+    after-requires
     returns)

@@ -1,11 +1,11 @@
 -- `signon_verdict::decide` meets its contract. Assumes nothing.
 use mathlib.Core.Path.{_≡_, ap, _∙_}
-use Rattle.env.specs.Numbers.{held}
+use Rattle.env.specs.Numbers.{variablesHeld}
 use Rattle.names.specs.Name.{raised}
 use Rattle.profile.specs.Table.{tableOf}
 use Rattle.profile_table.specs.Answer.{foundIn}
 use Rattle.signon.specs.declared.Answer.the-variants.{Given}
-use Rattle.signon_verdict.specs.near.Decisions.{userOf}
+use Rattle.signon_verdict.specs.internal.Decisions.{userOf}
 use Rattle.signon_verdict.proofs.Deciding.{decides}
 use borrow.Author.Needs.{needs}
 use Rattle.signon_verdict.proofs.decide.Statement.{statement}
@@ -34,7 +34,7 @@ with-profile-requires c κs =
     let a = c .before .before .before .before .before .before .before .before .before .args in
     let u = c .before .before .before .before .user-of .ensures in
     let f = c .before .before .before .find in
-    let vs = held (a .bytes .now) (a .numbers .now) in
+    let vs = variablesHeld (a .bytes .now) (a .numbers .now) in
     let found : f .result ≡ foundIn (raised (userOf vs)) (tableOf (a .table .now)) = f .ensures ∙ ap (λ n. foundIn (raised n) (tableOf (a .table .now))) u in
     let d = decides (a .server-seed .now) (a .table .now) vs (λ i. c .before .before .before .before .before .before .before .shared-slice-known2 .given i .fits) (f .result) _ found (c .before .e .given .1) in
     d .1
@@ -44,7 +44,7 @@ returns c =
     let a = c .before .before .before .before .before .before .before .before .before .args in
     let u = c .before .before .before .before .user-of .ensures in
     let f = c .before .before .before .find in
-    let vs = held (a .bytes .now) (a .numbers .now) in
+    let vs = variablesHeld (a .bytes .now) (a .numbers .now) in
     let found : f .result ≡ foundIn (raised (userOf vs)) (tableOf (a .table .now)) = f .ensures ∙ ap (λ n. foundIn (raised n) (tableOf (a .table .now))) u in
     let d = decides (a .server-seed .now) (a .table .now) vs (λ i. c .before .before .before .before .before .before .before .shared-slice-known2 .given i .fits) (f .result) _ found (c .before .number .given .1) in
     d
@@ -54,7 +54,7 @@ returns-2 c =
     let a = c .before .before .before .before .before .before .before .before .before .args in
     let u = c .before .before .before .before .user-of .ensures in
     let f = c .before .before .before .find in
-    let vs = held (a .bytes .now) (a .numbers .now) in
+    let vs = variablesHeld (a .bytes .now) (a .numbers .now) in
     let found : f .result ≡ foundIn (raised (userOf vs)) (tableOf (a .table .now)) = f .ensures ∙ ap (λ n. foundIn (raised n) (tableOf (a .table .now))) u in
     let d = decides (a .server-seed .now) (a .table .now) vs (λ i. c .before .before .before .before .before .before .before .shared-slice-known2 .given i .fits) (f .result) _ found (c .before .enum-told .given .1) in
     ap Given (c .without-profile .ensures) ∙ d
@@ -64,7 +64,7 @@ returns-3 c =
     let a = c .before .before .before .before .before .before .before .before .before .before .args in
     let u = c .before .before .before .before .before .user-of .ensures in
     let f = c .before .before .before .before .find in
-    let vs = held (a .bytes .now) (a .numbers .now) in
+    let vs = variablesHeld (a .bytes .now) (a .numbers .now) in
     let found : f .result ≡ foundIn (raised (userOf vs)) (tableOf (a .table .now)) = f .ensures ∙ ap (λ n. foundIn (raised n) (tableOf (a .table .now))) u in
     let d = decides (a .server-seed .now) (a .table .now) vs (λ i. c .before .before .before .before .before .before .before .before .shared-slice-known2 .given i .fits) (f .result) _ found (c .before .before .e .given .1) in
     ap Given (c .with-profile .ensures) ∙ d .0

@@ -2,11 +2,11 @@
 use mathlib.Core.Path.{_≡_, sym, _∙_}
 use mathlib.Core.Bool.{true, false}
 use borrow.Author.Tests.{not-true, not-false}
-use Rattle.env.specs.Numbers.{held}
+use Rattle.env.specs.Numbers.{variablesHeld}
 use Rattle.profile.specs.Profile.{enabled}
 use Rattle.profile_table.specs.Theorems.{standing}
 use Rattle.signon.specs.Attempt.{isProved}
-use Rattle.signon_verdict.specs.near.Decisions.{userOf, seedOf, offeredOf, seedGiven, offerGiven, isPanel, knownVerdict}
+use Rattle.signon_verdict.specs.internal.Decisions.{userOf, seedOf, offeredOf, seedGiven, offerGiven, isPanel, knownVerdict}
 use borrow.Author.Needs.{needs}
 use Rattle.signon_verdict.proofs.with_profile.Statement.{statement}
 use Rattle.signon_verdict.proofs.with_profile.Tie as tie
@@ -30,7 +30,7 @@ seed-given-requires c κs = search needs
 -- PANEL is not asked for, and the profile is enabled
 enabled-known : (c : tie.After-seed-given)
     → let a = c .before .before .before .before .before .before .before .before .before .args in
-    (isPanel (held (a .bytes .now) (a .numbers .now)) ≡ false) × (enabled (standing (a .table .now) (a .e .at)) ≡ true)
+    (isPanel (variablesHeld (a .bytes .now) (a .numbers .now)) ≡ false) × (enabled (standing (a .table .now) (a .e .at)) ≡ true)
 enabled-known c =
     let e = c .before in
     let i = e .before .before in
@@ -58,7 +58,7 @@ user-of-requires c κs = search needs
 -- both USERVARs are there
 both-given : (c : tie.After-user-of)
     → let a = c .before .before .before .before .before .before .before .before .before .before .before .before .before .args in
-    (seedGiven (held (a .bytes .now) (a .numbers .now)) ≡ true) × (offerGiven (held (a .bytes .now) (a .numbers .now)) ≡ true)
+    (seedGiven (variablesHeld (a .bytes .now) (a .numbers .now)) ≡ true) × (offerGiven (variablesHeld (a .bytes .now) (a .numbers .now)) ≡ true)
 both-given c =
     let o = c .before in
     let s = o .before .before in
@@ -76,7 +76,7 @@ is-proved-requires c κs = search needs
 -- what is proved, by the variables
 proved : (c : tie.After-is-proved)
     → let a = c .before .before .before .before .before .before .before .before .before .before .before .before .before .before .before .before .args in
-    let vs = held (a .bytes .now) (a .numbers .now) in
+    let vs = variablesHeld (a .bytes .now) (a .numbers .now) in
     c .is-proved .result ≡ isProved (a .server-seed .now) (userOf vs) (seedOf vs) (offeredOf vs) (standing (a .table .now) (a .e .at))
 proved c =
     rw (c .before .before .before .user-of .ensures, c .before .before .seed-of .ensures, c .before .offered-of .ensures) at (c .is-proved .ensures)

@@ -1,6 +1,6 @@
 -- `signon_verdict::without_profile` meets its contract. Assumes nothing.
 use mathlib.Core.Path.{sym, _∙_}
-use Rattle.signon_verdict.specs.near.Decisions.{unknownVerdict}
+use Rattle.signon_verdict.specs.internal.Decisions.{unknownVerdict}
 use borrow.Author.Needs.{needs}
 use Rattle.signon_verdict.proofs.without_profile.Statement.{statement}
 use Rattle.signon_verdict.proofs.without_profile.Tie as tie

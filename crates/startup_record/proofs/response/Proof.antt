@@ -5,7 +5,7 @@ use mathlib.Core.List.{List}
 use native.Mathlib.Omega.{arith}
 use borrow.Author.Tests.{not-true, not-false}
 use Rattle.octets.specs.Lent.{overwrite}
-use Rattle.startup_record.specs.near.Parts.{laidOut}
+use Rattle.startup_record.specs.internal.Parts.{laidOut}
 use Rattle.startup_record.proofs.Pieces.{code-four, bad-device, bad-system, no-room, wrote}
 use borrow.Author.Needs.{needs}
 use Rattle.startup_record.proofs.response.Statement.{statement}

@@ -22,7 +22,7 @@ unfolding textOfLine
 returns c =
     let z = c .before .before .before in
     let p = c .before .compose .ensures in
-    rw (p .bytes, p .behind, zero-add, z .zeros .ensures, z .before .answer-phrase .ensures .says)
+    rw (p .bytes, p .after, zero-add, z .zeros .ensures, z .before .answer-phrase .ensures .says)
 
 pub line-text-spec : {M : Type 1} → statement M
 line-text-spec =

@@ -10,8 +10,8 @@ use borrow.Author.Needs.{needs}
 use Rattle.telnet_reader.proofs.command.Statement.{statement}
 use Rattle.telnet_reader.proofs.command.Tie as tie
 
-add-behind : tie.Need-add-behind
-add-behind c = search needs
+add-after : tie.Need-add-after
+add-after c = search needs
 
 returns : tie.Need-returns
 returns c =
@@ -76,7 +76,7 @@ pub command-spec : {M : Type 1} → statement M
 command-spec =
     tie.close
     (tie.spec
-    add-behind
+    add-after
     returns
     shared-slice-read-c
     lead-of-requires

@@ -9,8 +9,8 @@ use Rattle.octets.specs.Lent.{outcome, overwrite}
 use Rattle.telnet.specs.declared.Kind.{Kind}
 use Rattle.telnet_reader.specs.declared.Answer.{Answer}
 use Rattle.telnet_reader.specs.declared.Answer.the-variants.{End, Found, Refused}
-use Rattle.telnet.specs.Read.{undoubled}
-use Rattle.telnet_reader.specs.near.Lead.{leadIn}
+use Rattle.telnet.specs.Read.{dataRun}
+use Rattle.telnet_reader.specs.internal.Lead.{leadIn}
 use Rattle.telnet_reader.specs.Promise.{lookAt, readAt}
 use Rattle.telnet_data.specs.Promise.{count}
 use Rattle.telnet_data.proofs.Copies.{run-whole}
@@ -23,7 +23,7 @@ use Rattle.telnet_reader.proofs.deliver.Tie as tie
 leaves : (s : List ℕ) (at : ℕ) (out : List ℕ) (r : Answer) → lookAt s at ≡ r → readAt s at out ≡ delivering s at out r
 leaves s at out r e = read-delivers s at out ∙ ap (delivering s at out) e
 
-placed : (s : List ℕ) (at : ℕ) (k : Kind) (n x : ℕ) → lookAt s at ≡ Found k n x → (at ≤ length s) × (n ≡ length (undoubled (drop (at + leadIn k) s)))
+placed : (s : List ℕ) (at : ℕ) (k : Kind) (n x : ℕ) → lookAt s at ≡ Found k n x → (at ≤ length s) × (n ≡ length (dataRun (drop (at + leadIn k) s)))
 placed s at k n x e = subst (Placed s at) e (looked-placed s at)
 
 look-requires : tie.Need-look-requires
@@ -62,9 +62,9 @@ returns-2 c =
     let e = sym (c .before .before .before .before .before .before .before .before .before .look .ensures)
     ∙ c .before .before .before .before .before .before .before .answer .given .1 in
     let from = c .before .before .before .before .data-place in
-    let n = placed (a .s .now) (a .at) (v .0) (v .1 .0) (v .1 .1 .0) e .1 ∙ ap (λ i. length (undoubled (drop i (a .s .now)))) (sym (from .ensures)) in
+    let n = placed (a .s .now) (a .at) (v .0) (v .1 .0) (v .1 .1 .0) e .1 ∙ ap (λ i. length (dataRun (drop i (a .s .now)))) (sym (from .ensures)) in
     let whole = run-whole (a .s .now) (from .result) (a .out .now) 0 (c .before .before .copy-run .ensures) (omega (arith, n)) .lent in
-    ap (outcome r) (whole ∙ ap (λ i. overwrite (a .out .now) 0 (undoubled (drop i (a .s .now)))) (from .ensures))
+    ap (outcome r) (whole ∙ ap (λ i. overwrite (a .out .now) 0 (dataRun (drop i (a .s .now)))) (from .ensures))
     ∙ sym (leaves (a .s .now) (a .at) (a .out .now) r e ∙ rw (le-ltb (length (a .out .now)) (v .1 .0) (omega arith)))
 
 enum-told : tie.Need-enum-told

@@ -3,7 +3,7 @@ use mathlib.Core.Path.{sym, ap, _∙_}
 use native.Mathlib.Omega.{arith}
 use Prim.Native.Nat.{_+_, _≤_, _<_}
 use lib.ListN.{length}
-use Rattle.telnet_records.specs.near.Gather.{sizedAt}
+use Rattle.telnet_records.specs.internal.Gather.{sizedAt}
 use Rattle.telnet_records.proofs.Gathering.{sized-end, sized-refused, sized-ends, sized-goes, found-further}
 use borrow.Author.Needs.{needs}
 use Rattle.telnet_records.proofs.advance.Statement.{statement}

@@ -8,7 +8,7 @@ use lib.ListN.{length}
 use borrow.Author.Needs.{needs}
 use Rattle.octets.specs.Lent.{overwrite}
 use Rattle.octets.proofs.Overwrite.{overwrite-nil}
-use Rattle.telnet_records.specs.near.Gather.{dataAt}
+use Rattle.telnet_records.specs.internal.Gather.{dataAt}
 use Rattle.octets.proofs.Front.{empty}
 use Rattle.telnet_records.proofs.copy_record.Statement.{statement}
 use Rattle.telnet_records.proofs.copy_record.Tie as tie

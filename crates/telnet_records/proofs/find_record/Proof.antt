@@ -6,7 +6,7 @@ use native.Mathlib.Omega.{arith}
 use lib.ListN.{length}
 use borrow.Author.Needs.{needs}
 use Rattle.telnet_records.specs.declared.Progress.the-variants.{More}
-use Rattle.telnet_records.specs.near.Gather.{sizedAt, Advanced}
+use Rattle.telnet_records.specs.internal.Gather.{sizedAt, Advanced}
 use Rattle.telnet_reader.proofs.Places.{look-end}
 use Rattle.telnet_records.proofs.Gathering.{sized-end}
 use Rattle.telnet_records.proofs.find_record.Statement.{statement}

@@ -9,7 +9,7 @@ use Rattle.octets.specs.Lent.{outcome}
 use Rattle.telnet_records.specs.declared.Record.{Record}
 use Rattle.telnet_records.specs.declared.Record.the-variants.{Complete, Unfinished, Refused}
 use Rattle.telnet_records.specs.Promise.{recordAt}
-use Rattle.telnet_records.specs.near.Gather.{sizedAt}
+use Rattle.telnet_records.specs.internal.Gather.{sizedAt}
 use Rattle.telnet_records.proofs.Gathering.{keeping, record-past, record-kept, found-length}
 use borrow.Author.Needs.{needs}
 use Rattle.telnet_records.proofs.read_record.Statement.{statement}

@@ -3,7 +3,7 @@
 use mathlib.Core.Path.{refl}
 use Rattle.des.specs.Blocks.{continued, permuted}
 use Rattle.des.specs.Cipher.{selected}
-use Rattle.des_cipher.specs.near.Boxes.{boxArray}
+use Rattle.des_cipher.specs.internal.Boxes.{boxArray}
 use Rattle.des_cipher.proofs.boxes.boxes.Statement.{statement}
 use Rattle.des_cipher.proofs.boxes.boxes.Tie as tie
 

@@ -8,7 +8,7 @@ use lib.ListN.{getD, drop}
 use borrow.Author.Needs.{needs}
 use Rattle.des.specs.Blocks.{continued, joined}
 use Rattle.des.specs.Cipher.{S, B, selected}
-use Rattle.des_cipher.proofs.Mixing.{chosen, behind, room, one-more, whole, looked}
+use Rattle.des_cipher.proofs.Mixing.{chosen, after, room, one-more, whole, looked}
 use Rattle.des_cipher.proofs.Selection.{selected-lt}
 use Rattle.des_cipher.proofs.cipher.mix.Statement.{statement}
 use Rattle.des_cipher.proofs.cipher.mix.Tie as tie
@@ -49,8 +49,8 @@ loop-again c =
     let small : s < 16 = selected-lt (l .j) (B (a .r) K (suc (l .j))) h in
     let e : c .boxed .result ≡ s = looked (a .r) K (l .j) (w .result / 2 ^ (28 - 4 * l .j)) (c .boxed .result) (c .boxed .ensures) (w .ensures (l .j) h) in (
       omega arith,
-      rw (e, behind (l .out) s (l .j) (l .inv .1) h small) (room (l .out) s (l .j) (l .inv .1) small),
-      rw (e, behind (l .out) s (l .j) (l .inv .1) h small) (sym (one-more (a .r) K (l .out) (l .j) h) ∙ l .inv .2),
+      rw (e, after (l .out) s (l .j) (l .inv .1) h small) (room (l .out) s (l .j) (l .inv .1) small),
+      rw (e, after (l .out) s (l .j) (l .inv .1) h small) (sym (one-more (a .r) K (l .out) (l .j) h) ∙ l .inv .2),
     )
 
 permute-p-requires : tie.Need-permute-p-requires Inv-loop μ-loop

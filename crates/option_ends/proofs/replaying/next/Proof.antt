@@ -4,7 +4,7 @@ use Prim.Native.Nat.{_-_}
 use native.Mathlib.Omega.{arith}
 use Rattle.option_rules.specs.Table.{rulesOf}
 use Rattle.option_ends.specs.Replay.{seen}
-use Rattle.option_ends.specs.near.Turn.{clipped}
+use Rattle.option_ends.specs.internal.Turn.{clipped}
 use Rattle.option_ends.proofs.Turns.{room, add, add-swapped, near-call, far-call, no-call, few}
 use borrow.Author.Needs.{needs}
 use Rattle.option_ends.proofs.replaying.next.Statement.{statement}

@@ -8,7 +8,7 @@ use lib.Seq.{take-all, length-take-le}
 use Rattle.option_rules.specs.Table.{rulesOf}
 use Rattle.option_ends.specs.Ends.{after, countWhere}
 use Rattle.option_ends.specs.Replay.{Standing, callOf, callsOf, replayed, seen}
-use Rattle.option_ends.specs.near.Turn.{onward, clipped}
+use Rattle.option_ends.specs.internal.Turn.{onward, clipped}
 use Rattle.option_ends.proofs.Whole.{one-more, totals-fit}
 use Rattle.option_ends.proofs.replaying.replay.Statement.{statement}
 use Rattle.option_ends.proofs.replaying.replay.Tie as tie

@@ -8,7 +8,7 @@ use lib.ListN.{length, take, replicate}
 use Rattle.octets.specs.Lent.{overwrite}
 use Rattle.octets.proofs.Promise.{put-fits}
 use Rattle.words.specs.BigEndian.{bytes}
-use Rattle.words.specs.near.Tail.{end}
+use Rattle.words.specs.internal.Tail.{end}
 use Rattle.words.proofs.Tail.{begun, room, finished, length-finished, built}
 use Rattle.sha1_digest.proofs.Last.{bits-of}
 use borrow.Author.Needs.{needs}

@@ -6,8 +6,8 @@ use lib.ListN.{length-set}
 use Rattle.octets.specs.Ascii.{ascii}
 use Rattle.octets.specs.Decimal.{decimal}
 use Rattle.telnet_line.specs.Line.{line}
-use Rattle.telnet_line.specs.near.Phrase.{phraseText}
-use Rattle.telnet_line.proofs.Put.{joined, byte-behind}
+use Rattle.telnet_line.specs.internal.Phrase.{phraseText}
+use Rattle.telnet_line.proofs.Put.{joined, byte-after}
 use borrow.Author.Needs.{needs}
 use Rattle.telnet_line.proofs.words.compose.Statement.{statement}
 use Rattle.telnet_line.proofs.words.compose.Tie as tie
@@ -36,7 +36,7 @@ returns c =
     let number = phrase .before .before .before .before in
     let a = number .before .before .before .args in
     let said = joined (number .put-number .ensures) (phrase .put-phrase .ensures) (omega arith) in
-    rw (append-assoc (decimal (a .place)) (ascii " ") (phraseText (a .phrase))) (byte-behind said 10 (omega arith))
+    rw (append-assoc (decimal (a .place)) (ascii " ") (phraseText (a .phrase))) (byte-after said 10 (omega arith))
 
 pub compose-spec : {M : Type 1} → statement M
 compose-spec =

@@ -29,7 +29,7 @@ returns c =
     let a = e .args in
     let few = length-decimal-word (a .n) (e .fits .n .fits) in
     record {
-      behind = ap (λ k. a .at + k) (c .decimal-length .ensures);
+      after = ap (λ k. a .at + k) (c .decimal-length .ensures);
       bytes = put-whole (decimal (a .n)) (a .out .now) (a .at) (omega (arith, few)) (c .before .before .before .put-decimal .ensures);
       few = few;
     }

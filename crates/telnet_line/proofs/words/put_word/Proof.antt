@@ -6,7 +6,7 @@ use native.Mathlib.Omega.{arith}
 use lib.ListN.{length, set, length-set}
 use lib.Seq.{length-take-le}
 use Rattle.octets.proofs.Promise.{put-whole}
-use Rattle.telnet_line.specs.near.Phrase.{wordText}
+use Rattle.telnet_line.specs.internal.Phrase.{wordText}
 use Rattle.telnet_line.proofs.Put.{byte-before}
 use borrow.Author.Needs.{needs}
 use Rattle.telnet_line.proofs.words.put_word.Statement.{statement}
@@ -54,7 +54,7 @@ returns c =
     let blank = set (a .out .now) (a .at) 32 in
     let room : a .at + 1 + length (wordText w) ≤ length blank = rw length-set (omega (arith, n, s .pre)) in
     byte-before 32 (s .pre .1) (record {
-      behind = ap (λ k. a .at + 1 + k) (sym n);
+      after = ap (λ k. a .at + 1 + k) (sym n);
       bytes = put-whole (wordText w) blank (a .at + 1) room (rw (sub-zero (w .length)) at (c .before .before .put .ensures));
       few = omega (arith, n);
     })

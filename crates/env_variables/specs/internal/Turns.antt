@@ -8,12 +8,12 @@ use lib.ListN.{length, drop}
 use Rattle.telnet.specs.Event.{payloadLimit}
 use Rattle.env_variables.specs.declared.Found.{Found as Answered}
 use Rattle.env_variables.specs.declared.Found.the-variants.{Fault}
-use Rattle.env_variables.specs.near.Found.{Buffers, Stored}
+use Rattle.env_variables.specs.internal.Found.{Buffers, Stored}
 use Rattle.env_text.specs.declared.Text.{Text}
 use Rattle.env.specs.Variable.{Variable, variable, variableLimit}
 use Rattle.env.specs.Fields.{text, broken, Field, nameField, valueField, Row, rowOf}
 use Rattle.env.specs.Read.{Found, variables, fault, names, expectNoText}
-use Rattle.env.specs.Numbers.{recordOf, numbersOf, listLimit, packed, recorded}
+use Rattle.env.specs.Numbers.{variableRecord, numbersOf, listLimit, packed, recorded}
 use Rattle.refusal.specs.Refusal.{noVariable, badEscape, valueInValue}
 use Rattle.octets.specs.Lent.{overwrite}
 
@@ -64,4 +64,4 @@ pub record HasRoom (rest : List ℕ) (at k : ℕ) (b : Buffers) : Type 0 where
 unfoldable pub ValueRead : Valued → ℕ → ℕ → ℕ → ℕ → Buffers → Answered → Buffers → Type 0
 ValueRead (badValue m) kind at n k before r after = r ≡ Fault m
 ValueRead (valued v vs) kind at n k before r after =
-    Stored (v ++ packed vs) (numbersOf (recordOf kind at n (at + n) (length v)) ++ recorded (at + n + length v) vs) (k + suc (length vs)) (at + n) k before r after
+    Stored (v ++ packed vs) (numbersOf (variableRecord kind at n (at + n) (length v)) ++ recorded (at + n + length v) vs) (k + suc (length vs)) (at + n) k before r after

@@ -17,21 +17,21 @@ use Rattle.profile_table.specs.declared.Scan.{Scan}
 use Rattle.profile_table.specs.Answer.{entry, foundFrom}
 
 -- what the records of bytes say, after `count` profiles and the name of the last of them
-abbrev pub recordsBehind : ℕ → List ℕ → List ℕ → TableReading
-recordsBehind count before bs = profilesFrom version1 (profileCount - count) before bs
+abbrev pub recordsAfter : ℕ → List ℕ → List ℕ → TableReading
+recordsAfter count before bs = profilesFrom version1 (profileCount - count) before bs
 
 -- a record with a name of n bytes stands at the front, and others after it
 pub record IsNext (count : ℕ) (before bs : List ℕ) (n : ℕ) : Type 0 where
   pub few : count < profileCount
   pub is : isRecord version1 bs ≡ true
   pub named : nameLengthAt bs ≡ n
-  pub reads : recordsBehind count before bs
-      ≡ addProfile (profileAt version1 bs) (recordsBehind (count + 1) (nameAt bs) (drop (2 + bodyLength version1 n) bs))
+  pub reads : recordsAfter count before bs
+      ≡ addProfile (profileAt version1 bs) (recordsAfter (count + 1) (nameAt bs) (drop (2 + bodyLength version1 n) bs))
 
 -- a step: a record, or the refusal of all
 abbrev pub Stepped : ℕ → List ℕ → List ℕ → Step → Type 0
 Stepped count before bs (Next n) = IsNext count before bs n
-Stepped count before bs (Stop n) = recordsBehind count before bs ≡ tableRefused n
+Stepped count before bs (Stop n) = recordsAfter count before bs ≡ tableRefused n
 
 -- what was found, or else what is found further on
 abbrev pub orElse : Found → Found → Found

@@ -15,7 +15,7 @@ use Rattle.telnet_records.specs.declared.Progress.{Progress}
 use Rattle.telnet_records.specs.declared.Progress.the-variants.{More, Done}
 use Rattle.telnet_data.specs.declared.Extent.{Extent}
 use Rattle.telnet.specs.Event.{eor}
-use Rattle.telnet.specs.Read.{undoubled}
+use Rattle.telnet.specs.Read.{dataRun}
 use Rattle.telnet.specs.Record.{Gathered, complete, noRecord, recordOf}
 use Rattle.telnet_records.specs.Promise.{answerNoRecord}
 use Rattle.octets.specs.Lent.{overwrite}
@@ -74,7 +74,7 @@ pub record Copied (s : List ℕ) (i : ℕ) (out : List ℕ) (to : ℕ) (out′ :
 pub record CanPass (s : List ℕ) (i : ℕ) : Type 0 where
   pub within : i ≤ length s
   pub some : 0 < length (dataAt s i)
-  pub none : undoubled (drop i s) ≡ []
+  pub none : dataRun (drop i s) ≡ []
 
 -- that event passed: after it the same data are left
 pub record Passed (s : List ℕ) (i j : ℕ) : Type 0 where

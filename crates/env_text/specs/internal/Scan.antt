@@ -15,5 +15,5 @@ pub record IsWidth (s : List ℕ) (i w : ℕ) : Type 0 where
 -- the text from a place on: its length without ESCs, and the place after it
 pub record IsExtent (s : List ℕ) (from : ℕ) (e : Extent) : Type 0 where
   pub count : e .length ≡ length (textOf (drop from s) .bytes)
-  pub rest : drop (e .end) s ≡ textOf (drop from s) .behind
+  pub rest : drop (e .end) s ≡ textOf (drop from s) .after
   pub within : e .end ≤ length s
