@@ -11,18 +11,19 @@ use native.Mathlib.Omega.{arith}
 use denote.Floats.{passes}
 use borrow.Author.Tests.{not-false}
 use mir.Facts.{yes-and}
-use lib.Dec.{T}
+use lib.Dec.{T, eqb→eq}
 use Rattle.octets.specs.Lent.{Outcome}
 use Rattle.octets.proofs.Choice.{choice}
 use Rattle.words.specs.BigEndian.{number, bytes}
 use Rattle.words.proofs.BigEndian.{length-bytes, number-bytes}
 use Rattle.names.specs.Name.{isName, profileLimit}
 use Rattle.names.specs.Ebcdic.{ebcdicOf}
-use Rattle.profile.specs.Profile.{version1, Profile, desAllowed, sumOf, recordBytes}
+use Rattle.profile.specs.Profile.{shapeOf, Profile, desAllowed, recordBytes}
 use Rattle.profile.specs.Profile as Profiles
-use Rattle.profile.specs.Table.{profileAt}
+use Rattle.profile.specs.Table.{tableVersion, versionOf, shapeIn, profileAt}
 use Rattle.profile.specs.Theorems.{WellFormed, Ascending, Occurs}
 use Rattle.profile.proofs.Fronts.{fronts}
+use Rattle.profile.proofs.Shapes.{short}
 use Rattle.profile.proofs.Backs.{tables-written-back}
 use Rattle.profile_maker.specs.declared.Made.{Made}
 use Rattle.profile_maker.specs.declared.Made.the-variants.{Wrote, Refused}
@@ -39,6 +40,7 @@ use Rattle.password_check.specs.Gives.{desSubstituteOf}
 use Rattle.password_check.proofs.Own.{number-token}
 use Rattle.signon.specs.declared.Verdict.the-variants.{Grant}
 use Rattle.signon.specs.Theorems.{zeroSeed, Granted, Session}
+use Rattle.signon.proofs.Sentences.{formed-in}
 use Rattle.signon.proofs.Verdicts.{verdict-is-its-sentence}
 use Rattle.claims.specs.MadeSignsOn.{MadeOf, Stored, BySha, ByDes, Offered, MadeSignsOn}
 
@@ -47,16 +49,10 @@ number-seed : (seed : ℕ) → seed < 2 ^ 64 → number (bytes 8 seed) ≡ seed
 number-seed seed small = number-bytes 8 seed ∙ mod-eq-of-lt small
 
 -- profiles with one record are one profile
-same-record : (p q : Profile) → WellFormed version1 p → WellFormed version1 q → recordBytes p ≡ recordBytes q → p ≡ q
-unfolding sumOf
-same-record p q v w e =
-    let front : List ℕ → Profile = λ l. profileAt version1 (l ++ []) in
-    sym (fronts version1 p [] v (omega arith) .says) ∙ ap front e ∙ fronts version1 q [] w (omega arith) .says
-
-formed-among : (before : List ℕ) (l : List Profile) (p : Profile) (after : List Profile)
-    → Ascending version1 before (l ++ p ∷ after) → WellFormed version1 p
-formed-among before [] p after asc = asc .0
-formed-among before (q ∷ l) p after asc = formed-among (q .name) l p after (asc .1 .1)
+same-record : (v : ℕ) (p q : Profile) → WellFormed (shapeOf v) p → WellFormed (shapeOf v) q → recordBytes p ≡ recordBytes q → p ≡ q
+same-record v p q a b e =
+    let front : List ℕ → Profile = λ l. profileAt (shapeOf v) (l ++ []) in
+    sym (fronts (shapeOf v) p [] a (short v) .says) ∙ ap front e ∙ fronts (shapeOf v) q [] b (short v) .says
 
 not-wrote : {A : Type 0} {k n : ℕ} → Refused k ≡ Wrote n → A
 not-wrote e = let z : _≡_ {A = ℕ} 0 1 = cc in absurd (omega arith)
@@ -106,10 +102,12 @@ module _ (name password : List ℕ) (des : Bool) where
       → s .profile ≡ profile
   stored-is-made written table made s =
       let g = made-records-are-good asked (made .out) (made .count) (made .wrote) in
-      let ascending = tables-written-back table (s .ps) (s .areBytes) (s .accepted) .1 .0 in
+      let back = tables-written-back table (s .ps) (s .areBytes) (s .accepted) in
+      let version : versionOf table ≡ tableVersion = eqb→eq (versionOf table) tableVersion (back .known) in
       let o = s .occurs in
-      same-record (s .profile) profile
-      (formed-among [] (o .before) (s .profile) (o .after) (subst (Ascending version1 []) (o .there) ascending))
+      let formed = formed-in (shapeIn table) [] (o .before) (s .profile) (o .after) (subst (Ascending (shapeIn table) []) (o .there) (back .ascending)) in
+      same-record tableVersion (s .profile) profile
+      (subst (λ (v : ℕ). WellFormed (shapeOf v) (s .profile)) version formed)
       (g .formed) (s .isWritten ∙ made .bytes ∙ g .bytes)
 
   module _ (server client : ℕ) (offered : List ℕ) where

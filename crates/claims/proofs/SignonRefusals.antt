@@ -15,8 +15,8 @@ use Rattle.refusal.specs.Refusal.{badProfileName, badPassword, inboundFrame}
 use Rattle.names.specs.Name.{isName, profileLimit, deviceLimit, systemLimit}
 use Rattle.names.specs.Order.{precedes}
 use Rattle.env.specs.Read.{Reading, says, notRead, readingOf}
-use Rattle.profile.specs.Profile.{Shape, version1, Profile, bodyLength, recordBytes}
-use Rattle.profile.specs.Table.{nameAt, nameLengthAt, profileAt, isRecord, tableVersion, profileCount, TableReading, profiles, tableRefused, addProfile, unlessEnd, profilesFrom, tableOf}
+use Rattle.profile.specs.Profile.{Shape, shapeOf, Profile, recordLength, recordBytes}
+use Rattle.profile.specs.Table.{nameAt, nameLengthAt, profileAt, isRecord, isVersion, profileCount, TableReading, profiles, tableRefused, addProfile, unlessEnd, profilesFrom, tableOf}
 use Rattle.profile_table.specs.Answer.{entry, checked, foundFrom, foundIn}
 use Rattle.profile_maker.specs.Made.{Making, madeProfile}
 use Rattle.profile_maker.specs.Promise.{makeInto}
@@ -65,18 +65,18 @@ end-by (b ∷ bs) r t = t
 
 records-by : (s : Shape) (room : ℕ) (before bs : List ℕ) → TableBy (profilesFrom s room before bs)
 unfolding profilesFrom oneOf
-records-by s zero before bs = end-by bs _ (choice TableBy (isRecord s bs) (λ _. tt) (λ _. tt))
+records-by s zero before bs = end-by bs _ (choice TableBy (not (isRecord s bs)) (λ _. tt) (λ _. tt))
 records-by s (suc room) before bs =
-    end-by bs _ (choice TableBy (isRecord s bs)
-    (λ _. choice TableBy (precedes before (nameAt bs))
-    (λ _. add-by (profileAt s bs) _ (records-by s room (nameAt bs) (drop (2 + bodyLength s (nameLengthAt bs)) bs)))
-    (λ _. tt))
-    (λ _. tt))
+    end-by bs _ (choice TableBy (not (isRecord s bs))
+    (λ _. tt)
+    (λ _. choice TableBy (not (precedes before (nameAt bs)))
+    (λ _. tt)
+    (λ _. add-by (profileAt s bs) _ (records-by s room (nameAt bs) (drop (recordLength s (nameLengthAt bs)) bs)))))
 
 table-by : (t : List ℕ) → TableBy (tableOf t)
 unfolding tableOf oneOf
 table-by [] = tt
-table-by (v ∷ bs) = choice TableBy (eqb v tableVersion) (λ _. records-by version1 profileCount [] bs) (λ _. tt)
+table-by (v ∷ bs) = choice TableBy (not (isVersion v)) (λ _. tt) (λ _. records-by (shapeOf v) profileCount [] bs)
 
 checked-by : (r : TableReading) → TableBy r → RefusesBy table (ofCheck (checked r))
 unfolding checked
@@ -148,8 +148,8 @@ answered-by seed (profiles ps) (says first vs) t q = tt
 pub judges : (seed t p : List ℕ) → RefusesBy (35 ∷ table ++ payload) (ofSignon (answerOf seed t p))
 unfolding answerOf oneOf
 judges seed t p =
-    choice (λ a. RefusesBy (35 ∷ table ++ payload) (ofSignon a)) (eqb (length seed) seedLength)
-    (λ _. answered-by seed (tableOf t) (readingOf p) (table-by t) (reading-by p)) (λ _. (tt, refl))
+    choice (λ a. RefusesBy (35 ∷ table ++ payload) (ofSignon a)) (not (eqb (length seed) seedLength))
+    (λ _. (tt, refl)) (λ _. answered-by seed (tableOf t) (readingOf p) (table-by t) (reading-by p))
 
 pub responds : (fault : Bool) (v : Verdict) (system device out : List ℕ) → RefusesInto (36 ∷ 4 ∷ []) ofResponse out (respondInto fault v system device out)
 unfolding respondInto writeFront oneOf

@@ -48,26 +48,26 @@ unless : {A : Type 0} (gives : A → Bool) (t : Bool) {refused answer : A} {b : 
 unless gives true e f = f
 unless gives false e f = e
 
-pub clear-given : (name password stored : List ℕ) → hashGives (shaToken name password) stored ≡ givesClear name password stored
+pub clear-given : (token name offered : List ℕ) → hashGives (shaToken name offered) token ≡ givesClear token name offered
 unfolding shaToken givesClear
-clear-given name password stored =
-    let gives : Hash → Bool = λ h. hashGives h stored in
-    unless gives (isName profileLimit name) refl (unless gives (Sha.isPassword password) refl refl)
+clear-given token name offered =
+    let gives : Hash → Bool = λ h. hashGives h token in
+    unless gives (isName profileLimit name) refl (unless gives (Sha.isPassword offered) refl refl)
 
 -- the tests that both substitutes have before anything is compared
-abbrev tested : ℕ → List ℕ → List ℕ → List ℕ → Bool → Bool
-tested n stored s k compared = eqb (length stored) n && (areSeeds s k && compared)
+abbrev tested : ℕ → (token s k : List ℕ) → Bool → Bool
+tested n token s k compared = eqb (length token) n && (areSeeds s k && compared)
 
-module _ (n : ℕ) (stored s k : List ℕ) (compared : Bool) where
-  pub other-length : (length stored ≡ n → ⊥) → false ≡ tested n stored s k compared
-  other-length h = rw (ne-eqb (length stored) n h)
+module _ (n : ℕ) (token s k : List ℕ) (compared : Bool) where
+  pub other-length : (length token ≡ n → ⊥) → false ≡ tested n token s k compared
+  other-length h = rw (ne-eqb (length token) n h)
 
   module _ (seeds : Bool) (e : seeds ≡ areSeeds s k) where
-    pub other-seeds : not seeds ≡ true → false ≡ tested n stored s k compared
-    other-seeds f = rw (← e, not-true seeds f) (sym (and-false (eqb (length stored) n)))
+    pub other-seeds : not seeds ≡ true → false ≡ tested n token s k compared
+    other-seeds f = rw (← e, not-true seeds f) (sym (and-false (eqb (length token) n)))
 
-    passed : not seeds ≡ false → length stored ≡ n → compared ≡ tested n stored s k compared
-    passed f h = rw (eq-eqb (length stored) n h, ← e, not-false seeds f)
+    passed : not seeds ≡ false → length token ≡ n → compared ≡ tested n token s k compared
+    passed f h = rw (eq-eqb (length token) n h, ← e, not-false seeds f)
 
 -- a seed, or a token, as the word of its eight bytes
 word-number : (l : List ℕ) → length l ≡ 8 → number (take 8 l) ≡ number l
@@ -76,26 +76,26 @@ word-number l h = ap number (take-all 8 l (omega arith))
 word-bytes : (l : List ℕ) → length l ≡ 8 → Bytes l → bytes 8 (number (take 8 l)) ≡ l
 word-bytes l h g = rw (word-number l h, ← h) (bytes-number l g)
 
-module _ (stored name s k offered : List ℕ) (seeds : Bool) (e : seeds ≡ areSeeds s k) (f : not seeds ≡ false) where
+module _ (token name s k offered : List ℕ) (seeds : Bool) (e : seeds ≡ areSeeds s k) (f : not seeds ≡ false) where
   lengths : (length s ≡ seedLength) × (length k ≡ seedLength)
   lengths =
       let both = and-eq-true-iff (eqb (length s) seedLength) (eqb (length k) seedLength) .0 (sym e ∙ not-false seeds f) in
       (eqb-true (length s) seedLength (both .0), eqb-true (length k) seedLength (both .1))
 
   -- an answer after those tests that only a bad name refuses
-  named : {A : Type 0} (gives : A → Bool) (n : ℕ) {refused answer : A} {b : Bool} → length stored ≡ n → gives refused ≡ false → gives answer ≡ b
-      → gives (if not (isName profileLimit name) then refused else answer) ≡ tested n stored s k (isName profileLimit name && b)
-  named gives n h r a = unless gives (isName profileLimit name) r a ∙ passed n stored s k _ seeds e f h
+  named : {A : Type 0} (gives : A → Bool) (n : ℕ) {refused answer : A} {b : Bool} → length token ≡ n → gives refused ≡ false → gives answer ≡ b
+      → gives (if not (isName profileLimit name) then refused else answer) ≡ tested n token s k (isName profileLimit name && b)
+  named gives n h r a = unless gives (isName profileLimit name) r a ∙ passed n token s k _ seeds e f h
 
-  pub des-given : length stored ≡ desLength
-      → blockGives (desSubstitute (number (take 8 stored)) name (number (take 8 s)) (number (take 8 k))) offered ≡ givesDes stored name s k offered
+  pub des-given : length token ≡ desLength
+      → blockGives (desSubstitute (number (take 8 token)) name (number (take 8 s)) (number (take 8 k))) offered ≡ givesDes token name s k offered
   unfolding desSubstitute givesDes
   des-given h =
-      rw (word-number stored h, word-number s (lengths .0), word-number k (lengths .1))
+      rw (word-number token h, word-number s (lengths .0), word-number k (lengths .1))
       (named (λ b. blockGives b offered) desLength h refl refl)
 
-  pub sha-given : length stored ≡ shaLength → Bytes s → Bytes k
-      → hashGives (shaSubstitute stored name (number (take 8 s)) (number (take 8 k))) offered ≡ givesSha stored name s k offered
+  pub sha-given : length token ≡ shaLength → Bytes s → Bytes k
+      → hashGives (shaSubstitute token name (number (take 8 s)) (number (take 8 k))) offered ≡ givesSha token name s k offered
   unfolding shaSubstitute givesSha
   sha-given h g₁ g₂ =
       rw (word-bytes s (lengths .0) g₁, word-bytes k (lengths .1) g₂)

@@ -49,11 +49,11 @@ equal-exactly : (a b : List ℕ) → (same a b ≡ true) ↔ (b ≡ a)
 equal-exactly a b = (λ e. sym (same-is-equal a b .0 (passes (same a b) e)), λ e. is-true (same a b) (same-is-equal a b .1 (sym e)))
 
 -- with a token of its length, two seeds and a good name, the comparison decides
-exactly : (name : List ℕ) → T (isName profileLimit name) → (n : ℕ) (stored server client substitute offered : List ℕ)
-    → length stored ≡ n → length server ≡ seedLength → length client ≡ seedLength
-    → ((eqb (length stored) n && (areSeeds server client && (isName profileLimit name && same substitute offered))) ≡ true) ↔ (offered ≡ substitute)
-exactly name good n stored server client substitute offered h s k =
-    rw (eq-eqb (length stored) n h, eq-eqb (length server) seedLength s, eq-eqb (length client) seedLength k, is-true (isName profileLimit name) good)
+exactly : (name : List ℕ) → T (isName profileLimit name) → (n : ℕ) (token server client substitute offered : List ℕ)
+    → length token ≡ n → length server ≡ seedLength → length client ≡ seedLength
+    → ((eqb (length token) n && (areSeeds server client && (isName profileLimit name && same substitute offered))) ≡ true) ↔ (offered ≡ substitute)
+exactly name good n token server client substitute offered h s k =
+    rw (eq-eqb (length token) n h, eq-eqb (length server) seedLength s, eq-eqb (length client) seedLength k, is-true (isName profileLimit name) good)
     (equal-exactly substitute offered)
 
 pub own-password-gives : OwnPasswordGives
@@ -76,18 +76,18 @@ own-password-gives name password good =
     }
 
 -- what the tests and the comparison let pass, where the substitute has m bytes
-lengths : (n m : ℕ) (stored server client substitute offered : List ℕ) (named : Bool) → length substitute ≡ m
-    → (eqb (length stored) n && (areSeeds server client && (named && same substitute offered))) ≡ true
-    → (length stored ≡ n) × ((length server ≡ seedLength) × ((length client ≡ seedLength) × (length offered ≡ m)))
-lengths n m stored server client substitute offered named long e =
-    let tested = and-eq-true-iff (eqb (length stored) n) _ .0 e in
+lengths : (n m : ℕ) (token server client substitute offered : List ℕ) (named : Bool) → length substitute ≡ m
+    → (eqb (length token) n && (areSeeds server client && (named && same substitute offered))) ≡ true
+    → (length token ≡ n) × ((length server ≡ seedLength) × ((length client ≡ seedLength) × (length offered ≡ m)))
+lengths n m token server client substitute offered named long e =
+    let tested = and-eq-true-iff (eqb (length token) n) _ .0 e in
     let after = and-eq-true-iff (areSeeds server client) _ .0 (tested .1) in
     let seeds = and-eq-true-iff (eqb (length server) seedLength) (eqb (length client) seedLength) .0 (after .0) in
     let compared = and-eq-true-iff named (same substitute offered) .0 (after .1) .1 in
-    let stored-long = eqb-true (length stored) n (tested .0) in
+    let token-long = eqb-true (length token) n (tested .0) in
     let server-long = eqb-true (length server) seedLength (seeds .0) in
     let client-long = eqb-true (length client) seedLength (seeds .1) in
-    (stored-long, (server-long, (client-long, ap length (equal-exactly substitute offered .0 compared) ∙ long)))
+    (token-long, (server-long, (client-long, ap length (equal-exactly substitute offered .0 compared) ∙ long)))
 
 length-substitute : (token server client name : List ℕ) → length (Sha.PW-SUB token server client name) ≡ shaLength
 unfolding Sha.PW-SUB
@@ -96,14 +96,14 @@ length-substitute token server client name = length-sha1 _
 pub only-its-lengths : OnlyItsLengths
 unfolding givesDes givesSha givesClear
 only-its-lengths = record {
-  des = λ stored name server client offered e.
-      lengths desLength desLength stored server client _ offered (isName profileLimit name) (length-bytes 8 _) e;
-  sha = λ stored name server client offered e.
-      let long = length-substitute stored server client name in
-      lengths shaLength shaLength stored server client _ offered (isName profileLimit name) long e;
-  clear = λ name password stored e.
-      let token = Sha.PW-token name password in
+  des = λ token name server client offered e.
+      lengths desLength desLength token server client _ offered (isName profileLimit name) (length-bytes 8 _) e;
+  sha = λ token name server client offered e.
+      let long = length-substitute token server client name in
+      lengths shaLength shaLength token server client _ offered (isName profileLimit name) long e;
+  clear = λ token name offered e.
+      let given = Sha.PW-token name offered in
       let good = and-eq-true-iff (isName profileLimit name) _ .0 e .1 in
-      let compared = and-eq-true-iff (Sha.isPassword password) (same token stored) .0 good .1 in
-      ap length (equal-exactly token stored .0 compared) ∙ length-token name password;
+      let compared = and-eq-true-iff (Sha.isPassword offered) (same given token) .0 good .1 in
+      ap length (equal-exactly given token .0 compared) ∙ length-token name offered;
 }

@@ -24,24 +24,24 @@ abbrev pub seedLength : ℕ
 seedLength = 8
 
 -- "the value is a clear password whose SHA-1 token is stored"
-unfoldable pub givesClear : List ℕ → List ℕ → List ℕ → Bool
-givesClear name password stored = isName profileLimit name && (Sha.isPassword password && same (Sha.PW-token name password) stored)
+unfoldable pub givesClear : (token name offered : List ℕ) → Bool
+givesClear token name offered = isName profileLimit name && (Sha.isPassword offered && same (Sha.PW-token name offered) token)
 
 -- two seeds of eight bytes
-abbrev pub areSeeds : List ℕ → List ℕ → Bool
+abbrev pub areSeeds : (serverSeed clientSeed : List ℕ) → Bool
 areSeeds serverSeed clientSeed = eqb (length serverSeed) seedLength && eqb (length clientSeed) seedLength
 
 -- "an 8-byte value is the DES substitute" (section 5.1)
-abbrev pub desSubstituteOf : List ℕ → List ℕ → List ℕ → List ℕ → List ℕ
-desSubstituteOf stored name serverSeed clientSeed = bytes 8 (Des.PW-SUB (number stored) (number serverSeed) (number clientSeed) (ebcdicOf name))
+abbrev pub desSubstituteOf : (token name serverSeed clientSeed : List ℕ) → List ℕ
+desSubstituteOf token name serverSeed clientSeed = bytes 8 (Des.PW-SUB (number token) (number serverSeed) (number clientSeed) (ebcdicOf name))
 
-unfoldable pub givesDes : List ℕ → List ℕ → List ℕ → List ℕ → List ℕ → Bool
-givesDes stored name serverSeed clientSeed offered =
-    eqb (length stored) desLength
-    && (areSeeds serverSeed clientSeed && (isName profileLimit name && same (desSubstituteOf stored name serverSeed clientSeed) offered))
+unfoldable pub givesDes : (token name serverSeed clientSeed offered : List ℕ) → Bool
+givesDes token name serverSeed clientSeed offered =
+    eqb (length token) desLength
+    && (areSeeds serverSeed clientSeed && (isName profileLimit name && same (desSubstituteOf token name serverSeed clientSeed) offered))
 
 -- "a 20-byte value is the SHA-1 substitute" (section 5.2)
-unfoldable pub givesSha : List ℕ → List ℕ → List ℕ → List ℕ → List ℕ → Bool
-givesSha stored name serverSeed clientSeed offered =
-    eqb (length stored) shaLength
-    && (areSeeds serverSeed clientSeed && (isName profileLimit name && same (Sha.PW-SUB stored serverSeed clientSeed name) offered))
+unfoldable pub givesSha : (token name serverSeed clientSeed offered : List ℕ) → Bool
+givesSha token name serverSeed clientSeed offered =
+    eqb (length token) shaLength
+    && (areSeeds serverSeed clientSeed && (isName profileLimit name && same (Sha.PW-SUB token serverSeed clientSeed name) offered))

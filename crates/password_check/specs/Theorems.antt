@@ -33,10 +33,10 @@ pub record OwnGives (name password : List ℕ) : Type 0 where
   -- "the value is a clear password whose SHA-1 token is stored": a clear password passes exactly where its token is
   -- that of this one;
   pub clear : (offered : List ℕ)
-      → (givesClear name offered (Sha.PW-token name password) ≡ true)
+      → (givesClear (Sha.PW-token name password) name offered ≡ true)
       ↔ ((Sha.isPassword offered ≡ true) × (Sha.PW-token name offered ≡ Sha.PW-token name password))
   -- and so does this one
-  pub itself : T (Sha.isPassword password) → givesClear name password (Sha.PW-token name password) ≡ true
+  pub itself : T (Sha.isPassword password) → givesClear (Sha.PW-token name password) name password ≡ true
 
 -- "its token .. gives the offered substitute under this session's two seeds .., or .. a clear password gives its stored
 -- token": for every good name.
@@ -46,8 +46,8 @@ OwnPasswordGives = (name password : List ℕ) → T (isName profileLimit name) �
 -- What passes has its own length, and so have the stored token and both seeds: the eight or twenty bytes of "8-byte DES
 -- token, 20-byte SHA-1 token", eight of a seed.
 pub record OnlyItsLengths : Type 0 where
-  pub des : (stored name server client offered : List ℕ) → givesDes stored name server client offered ≡ true
-      → (length stored ≡ 8) × ((length server ≡ 8) × ((length client ≡ 8) × (length offered ≡ 8)))
-  pub sha : (stored name server client offered : List ℕ) → givesSha stored name server client offered ≡ true
-      → (length stored ≡ 20) × ((length server ≡ 8) × ((length client ≡ 8) × (length offered ≡ 20)))
-  pub clear : (name password stored : List ℕ) → givesClear name password stored ≡ true → length stored ≡ 20
+  pub des : (token name server client offered : List ℕ) → givesDes token name server client offered ≡ true
+      → (length token ≡ 8) × ((length server ≡ 8) × ((length client ≡ 8) × (length offered ≡ 8)))
+  pub sha : (token name server client offered : List ℕ) → givesSha token name server client offered ≡ true
+      → (length token ≡ 20) × ((length server ≡ 8) × ((length client ≡ 8) × (length offered ≡ 20)))
+  pub clear : (token name offered : List ℕ) → givesClear token name offered ≡ true → length token ≡ 20

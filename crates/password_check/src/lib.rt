@@ -5,15 +5,15 @@ ghost use Rattle.password_check.specs.Gives.{givesClear, areSeeds, gives
 use password_des::Block;
 
 // Whether a text is a password whose SHA-1 token, with a name, is the stored one.
-pub fn gives_clear(name: &[u8], password: &[u8], stored: &[u8]) -> bool
-    ensures { λ r. ⌜ r ≡ givesClear (now (name .entry)) (now (password .entry)) (now (stored .entry)) ⌝ }
+pub fn gives_clear(token: &[u8], name: &[u8], offered: &[u8]) -> bool
+    ensures { λ r. ⌜ r ≡ givesClear (now (token .entry)) (now (name .entry)) (now (offered .entry)) ⌝ }
 {
-    let hash = password_sha::sha_token(name, password);
+    let hash = password_sha::sha_token(name, offered);
     if hash.refusal != 0 {
         return false;
     }
-    let token = hash.bytes;
-    octets::same(&token, stored)
+    let given = hash.bytes;
+    octets::same(&given, token)
 }
 
 // Whether two texts have the length of a seed.
@@ -28,55 +28,55 @@ fn are_seeds(server_seed: &[u8], client_seed: &[u8]) -> bool
 
 // Whether the offered bytes are the substitute by DES of the stored token, under two seeds.
 pub fn gives_des(
-    stored: &[u8],
+    token: &[u8],
     name: &[u8],
     server_seed: &[u8],
     client_seed: &[u8],
     offered: &[u8],
 ) -> bool
     ensures { λ r. ⌜
-        r ≡ givesDes (now (stored .entry)) (now (name .entry)) (now («server_seed» .entry)) (now («client_seed» .entry)) (now (offered .entry))
+        r ≡ givesDes (now (token .entry)) (now (name .entry)) (now («server_seed» .entry)) (now («client_seed» .entry)) (now (offered .entry))
         ⌝ }
 {
-    if stored.len() != 8 {
+    if token.len() != 8 {
         return false;
     }
     if !are_seeds(server_seed, client_seed) {
         return false;
     }
-    let token = words::word_64(stored);
+    let block = words::word_64(token);
     let server = words::word_64(server_seed);
     let client = words::word_64(client_seed);
-    let answer = password_des::des_substitute(token, name, server, client);
+    let answer = password_des::des_substitute(block, name, server, client);
     match answer {
         Block::Refused(_) => false,
-        Block::Value(block) => octets::same(&words::bytes_64(block), offered),
+        Block::Value(substitute) => octets::same(&words::bytes_64(substitute), offered),
     }
 }
 
 // Whether the offered bytes are the substitute by SHA-1 of the stored token, under two seeds.
 pub fn gives_sha(
-    stored: &[u8],
+    token: &[u8],
     name: &[u8],
     server_seed: &[u8],
     client_seed: &[u8],
     offered: &[u8],
 ) -> bool
     ensures { λ r. ⌜
-        r ≡ givesSha (now (stored .entry)) (now (name .entry)) (now («server_seed» .entry)) (now («client_seed» .entry)) (now (offered .entry))
+        r ≡ givesSha (now (token .entry)) (now (name .entry)) (now («server_seed» .entry)) (now («client_seed» .entry)) (now (offered .entry))
         ⌝ }
 {
-    if stored.len() != 20 {
+    if token.len() != 20 {
         return false;
     }
     if !are_seeds(server_seed, client_seed) {
         return false;
     }
-    let mut token = [0u8; 20];
-    octets::put(stored, &mut token, 0);
+    let mut bytes = [0u8; 20];
+    octets::put(token, &mut bytes, 0);
     let server = words::word_64(server_seed);
     let client = words::word_64(client_seed);
-    let answer = password_sha::sha_substitute(token, name, server, client);
+    let answer = password_sha::sha_substitute(bytes, name, server, client);
     if answer.refusal != 0 {
         return false;
     }

@@ -7,7 +7,7 @@ use Rattle.words.specs.BigEndian.{bytes}
 use Rattle.names.specs.Range.{every}
 use Rattle.names.specs.Name.{isNameByte, isRaisedName}
 use Rattle.names.specs.Order.{precedes}
-use Rattle.profile.specs.Profile.{Profile, marksOf, tokensOf, sumOf}
+use Rattle.profile.specs.Profile.{shapeOf, Profile, marksOf, tokensOf, sumOf}
 use Rattle.profile.specs.Table.{isRecord, profiles, addProfile, unlessEnd, profilesFrom, tableOf}
 use Rattle.profile.specs.Theorems.{exampleRecord, ExampleRead}
 
@@ -21,7 +21,7 @@ user = record {
 
 reads : tableOf (0x01 ∷ exampleRecord) ≡ profiles (user ∷ [])
 unfolding tableOf profilesFrom unlessEnd addProfile isRecord isRaisedName isNameByte
-    every precedes marksOf tokensOf sumOf bytes
+    every precedes shapeOf marksOf tokensOf sumOf bytes
 reads = refl
 
 pub example-read : ExampleRead

@@ -16,7 +16,7 @@ use Rattle.names.specs.Range.{every}
 use Rattle.names.specs.Name.{isNameByte, isRaisedName, profileLimit}
 use Rattle.words.specs.BigEndian.{number, bytes}
 use Rattle.words.proofs.BigEndian.{number-bytes, length-bytes}
-use Rattle.profile.specs.Profile.{Shape, Profile, flagsByte, marksOf, tokenBytes, tokensOf, sumOf, bodyLength, bodyOf, recordBytes}
+use Rattle.profile.specs.Profile.{Shape, Profile, flagsByte, marksOf, tokenBytes, tokensOf, sumOf, bodyLength, recordLength, bodyOf, recordBytes}
 use Rattle.profile.specs.Table.{flagsAt, nameLengthAt, nameAt, profileAt, isRecord}
 use Rattle.profile.specs.Theorems.{WellFormed}
 
@@ -77,7 +77,7 @@ pub record Fronts (s : Shape) (p : Profile) (rest : List ℕ) : Type 0 where
   pub is : T (isRecord s (recordBytes p ++ rest))
   pub says : profileAt s (recordBytes p ++ rest) ≡ p
   pub named : nameAt (recordBytes p ++ rest) ≡ p .name
-  pub after : drop (2 + bodyLength s (nameLengthAt (recordBytes p ++ rest))) (recordBytes p ++ rest) ≡ rest
+  pub after : drop (recordLength s (nameLengthAt (recordBytes p ++ rest))) (recordBytes p ++ rest) ≡ rest
   pub some : 0 < length (recordBytes p ++ rest)
 
 pub length-body : (s : Shape) (p : Profile) → WellFormed s p → length (bodyOf p) ≡ bodyLength s (length (p .name))
@@ -112,11 +112,11 @@ module _ (s : Shape) (p : Profile) (rest : List ℕ) (w : WellFormed s p) (short
       let n = length (p .name) in
       let all : length tail ≡ length (p .name ++ tokenBytes (p .tokens)) + length rest = length-append (p .name ++ tokenBytes (p .tokens)) rest in
       let bs = recordBytes p ++ rest in
-      let long : 2 + bodyLength s n ≤ length bs = omega (arith, all, length-body s p w) in
+      let long : recordLength s n ≤ length bs = omega (arith, all, length-body s p w) in
       let below : flagsByte (p .marks) < 2 ^ s .marks = rw (← w .marks) (flags-below (p .marks)) in
       let marks : marksOf (s .marks) (flagsByte (p .marks)) ≡ p .marks = rw (← w .marks) (marks-flags (p .marks)) in
       record {
-        is = yes-and (leb (2 + bodyLength s n) (length bs)) _ (le→leb (2 + bodyLength s n) (length bs) long)
+        is = yes-and (leb (recordLength s n) (length bs)) _ (le→leb (recordLength s n) (length bs) long)
             (yes-and (eqb (number (bytes 2 (length (bodyOf p)))) (bodyLength s n)) _ (rw (eq-eqb _ _ said) tt)
             (yes-and (ltb (flagsByte (p .marks)) (2 ^ s .marks)) _ (lt→ltb (flagsByte (p .marks)) (2 ^ s .marks) below) (rw name-there (w .name))));
         says = rw (marks, four-on n, name-there, tokens-there);

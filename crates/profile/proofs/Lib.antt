@@ -1,5 +1,6 @@
 pub mod Fronts
 pub mod Steps
+pub mod Shapes
 pub mod Tables
 pub mod Backs
 pub mod Sizes

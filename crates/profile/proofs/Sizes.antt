@@ -10,15 +10,15 @@ use lib.Dec.{leb}
 use lib.ListN.{length, take, drop, length-append, length-take, length-drop}
 use Rattle.words.specs.BigEndian.{bytes}
 use Rattle.words.proofs.BigEndian.{length-bytes}
-use Rattle.profile.specs.Profile.{Shape, tokenBytes, tokensOf, sumOf, bodyLength, bodyOf, recordBytes}
+use Rattle.profile.specs.Profile.{Shape, tokenBytes, tokensOf, sumOf, bodyLength, recordLength, bodyOf, recordBytes}
 use Rattle.profile.specs.Table.{nameLengthAt, nameAt, profileAt, isRecord}
 use Rattle.profile.proofs.Backs.{joined-split}
 
 module _ (s : Shape) (bs : List ℕ) (good : isRecord s bs ≡ true) where
   -- it is not cut
-  pub reaches : 2 + bodyLength s (nameLengthAt bs) ≤ length bs
+  pub reaches : recordLength s (nameLengthAt bs) ≤ length bs
   unfolding isRecord
-  reaches = leb-true (2 + bodyLength s (nameLengthAt bs)) (length bs) (and-eq-true-iff (leb (2 + bodyLength s (nameLengthAt bs)) (length bs)) _ .0 good .0)
+  reaches = leb-true (recordLength s (nameLengthAt bs)) (length bs) (and-eq-true-iff (leb (recordLength s (nameLengthAt bs)) (length bs)) _ .0 good .0)
 
   length-name : length (nameAt bs) ≡ nameLengthAt bs
   length-name = simp (length-take, length-drop) (omega (arith, reaches))
@@ -27,7 +27,7 @@ module _ (s : Shape) (bs : List ℕ) (good : isRecord s bs ≡ true) where
   length-tokens = rw (joined-split (s .tokens) (drop (4 + nameLengthAt bs) bs)) (simp (length-take, length-drop) (omega (arith, reaches)))
 
   -- and as long as its profile's record
-  pub length-record : length (recordBytes (profileAt s bs)) ≡ 2 + bodyLength s (nameLengthAt bs)
+  pub length-record : length (recordBytes (profileAt s bs)) ≡ recordLength s (nameLengthAt bs)
   unfolding recordBytes
   length-record =
       let p = profileAt s bs in

@@ -7,7 +7,7 @@ use native.Mathlib.Omega.{arith}
 use lib.ListN.{length, drop}
 use Rattle.names.specs.Order.{precedes}
 use Rattle.refusal.specs.Refusal.{badProfile, profilesNotAscending}
-use Rattle.profile.specs.Profile.{Shape, bodyLength}
+use Rattle.profile.specs.Profile.{Shape, recordLength}
 use Rattle.profile.specs.Table.{nameLengthAt, nameAt, profileAt, isRecord, TableReading, tableRefused, addProfile, unlessEnd, profilesFrom}
 
 pub not-end : (bs : List ℕ) (r : TableReading) → 0 < length bs → unlessEnd bs r ≡ r
@@ -32,6 +32,6 @@ module _ (s : Shape) (before bs : List ℕ) (some : 0 < length bs) where
 
   pub one-more : (room : ℕ) → isRecord s bs ≡ true → precedes before (nameAt bs) ≡ true
       → profilesFrom s (suc room) before bs
-      ≡ addProfile (profileAt s bs) (profilesFrom s room (nameAt bs) (drop (2 + bodyLength s (nameLengthAt bs)) bs))
+      ≡ addProfile (profileAt s bs) (profilesFrom s room (nameAt bs) (drop (recordLength s (nameLengthAt bs)) bs))
   unfolding profilesFrom
   one-more room good right = rw (not-end bs _ some, good, right)

@@ -9,10 +9,11 @@ use lib.Dec.{T}
 use denote.Floats.{is-true}
 use Rattle.names.specs.Name.{profileLimit}
 use Rattle.names.specs.Order.{precedes}
-use Rattle.profile.specs.Profile.{Shape, version1, Profile, bodyLength, sumOf, recordBytes}
+use Rattle.profile.specs.Profile.{Shape, shapeOf, Profile, bodyLength, recordBytes}
 use Rattle.profile.specs.Table.{profileCount, nameAt, isRecord, TableReading, profiles, addProfile, unlessEnd, profilesFrom, tableOf, recordsBytes, tableBytes}
 use Rattle.profile.specs.Theorems.{WellFormed, Ascending, RecordsReadBack, TablesReadBack}
 use Rattle.profile.proofs.Fronts.{Fronts, fronts}
+use Rattle.profile.proofs.Shapes.{short, by-records}
 use Rattle.profile.proofs.Steps.{one-more}
 
 -- a record that comes after the name before it, where there is room
@@ -34,5 +35,5 @@ records-read-back s short (suc room) before (p ∷ ps) (w, (b, asc)) few =
     next-record s short room before p (recordsBytes ps) w b ∙ rw (records-read-back s short room (p .name) ps asc (omega arith))
 
 pub tables-read-back : TablesReadBack
-unfolding tableOf sumOf
-tables-read-back ps asc few = records-read-back version1 (omega arith) profileCount [] ps asc (omega (arith, few))
+tables-read-back v known ps asc few =
+    by-records v (recordsBytes ps) known ∙ records-read-back (shapeOf v) (short v) profileCount [] ps asc few

@@ -19,6 +19,10 @@ pub record Shape : Type 0 where
 abbrev pub version1 : Shape
 version1 = record { marks = 2; tokens = 8 ∷ 20 ∷ [] }
 
+-- the shape of the records of a version: version 1 is the only one
+unfoldable pub shapeOf : (version : ℕ) → Shape
+shapeOf version = version1
+
 -- a profile: its flags as marks, its name, and its tokens
 pub record Profile : Type 0 where
   pub marks : List Bool
@@ -67,6 +71,10 @@ sumOf (n ∷ ns) = n + sumOf ns
 -- the length that a record of a shape says, with a name of n bytes: "30 + n" in version 1
 abbrev pub bodyLength : Shape → ℕ → ℕ
 bodyLength s n = 2 + (n + sumOf (s .tokens))
+
+-- and how long the record is, with the two bytes that say it
+abbrev pub recordLength : Shape → ℕ → ℕ
+recordLength s n = 2 + bodyLength s n
 
 -- what stands after the length: flags, n, name, tokens
 abbrev pub bodyOf : Profile → List ℕ

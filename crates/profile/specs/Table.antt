@@ -1,7 +1,7 @@
 -- The profile table: "one version byte 1, then records", their names strictly ascending, at most 500 (specification,
 -- "Profile table" and "Refusal numbers" 30 to 32: 30 by the first byte alone, then record by record 31 before 32).
 use Prim.Native.Nat.{ℕ, zero, suc, _+_, _^_}
-use mathlib.Core.Bool.{Bool, _&&_}
+use mathlib.Core.Bool.{Bool, not, _&&_}
 use mathlib.Core.List.{List, [], _∷_, _++_}
 use lib.Dec.{eqb, leb, ltb}
 use lib.ListN.{length, getD, take, drop}
@@ -10,11 +10,14 @@ use Rattle.names.specs.Order.{precedes}
 use Rattle.words.specs.BigEndian.{number}
 use Rattle.octets.specs.Choice.{if_then_else_}
 use Rattle.refusal.specs.Refusal.{badTable, badProfile, profilesNotAscending}
-use Rattle.profile.specs.Profile.{Shape, version1, Profile, marksOf, tokensOf, bodyLength, recordBytes}
+use Rattle.profile.specs.Profile.{Shape, shapeOf, Profile, marksOf, tokensOf, bodyLength, recordLength, recordBytes}
 
--- the version byte of today's table
+-- the version that a table is made with, and whether a version is known
 abbrev pub tableVersion : ℕ
 tableVersion = 1
+
+abbrev pub isVersion : ℕ → Bool
+isVersion v = eqb v tableVersion
 
 -- how many profiles a table has at most
 abbrev pub profileCount : ℕ
@@ -42,7 +45,7 @@ profileAt s bs = record {
 -- its name is a raised name
 unfoldable pub isRecord : Shape → List ℕ → Bool
 isRecord s bs =
-    leb (2 + bodyLength s (nameLengthAt bs)) (length bs)
+    leb (recordLength s (nameLengthAt bs)) (length bs)
     && (eqb (number (take 2 bs)) (bodyLength s (nameLengthAt bs))
     && (ltb (flagsAt bs) (2 ^ s .marks) && isRaisedName profileLimit (nameAt bs)))
 
@@ -64,19 +67,28 @@ unlessEnd (b ∷ bs) reading = reading
 -- The records of bytes, where there is room for that many more and their names come after one. Decides 31 for a record
 -- that is not well-formed, then 32 for one too many and for one whose name does not come after the name before it.
 -- Bytes that are left over are a record that is cut.
-unfoldable pub profilesFrom : Shape → ℕ → List ℕ → List ℕ → TableReading
-profilesFrom s zero before bs = unlessEnd bs (if isRecord s bs then tableRefused profilesNotAscending else tableRefused badProfile)
+unfoldable pub profilesFrom : Shape → (room : ℕ) (before bs : List ℕ) → TableReading
+profilesFrom s zero before bs = unlessEnd bs (if not (isRecord s bs) then tableRefused badProfile else tableRefused profilesNotAscending)
 profilesFrom s (suc room) before bs = unlessEnd bs
-    (if isRecord s bs
-    then if precedes before (nameAt bs)
-    then addProfile (profileAt s bs) (profilesFrom s room (nameAt bs) (drop (2 + bodyLength s (nameLengthAt bs)) bs))
-    else tableRefused profilesNotAscending
-    else tableRefused badProfile)
+    (if not (isRecord s bs) then tableRefused badProfile else
+    if not (precedes before (nameAt bs)) then tableRefused profilesNotAscending else
+    addProfile (profileAt s bs) (profilesFrom s room (nameAt bs) (drop (recordLength s (nameLengthAt bs)) bs)))
 
 -- A table. Decides 30; no name comes before the first, and the empty text comes before every name.
 unfoldable pub tableOf : List ℕ → TableReading
 tableOf [] = tableRefused badTable
-tableOf (v ∷ bs) = if eqb v tableVersion then profilesFrom version1 profileCount [] bs else tableRefused badTable
+tableOf (v ∷ bs) = if not (isVersion v) then tableRefused badTable else profilesFrom (shapeOf v) profileCount [] bs
+
+-- the version byte of a table, and the shape of its records
+abbrev pub versionOf : List ℕ → ℕ
+versionOf table = getD table 0 0
+
+abbrev pub shapeIn : (table : List ℕ) → Shape
+shapeIn table = shapeOf (versionOf table)
+
+-- the profile that the record at a place of a table says
+abbrev pub profileIn : (table : List ℕ) (at : ℕ) → Profile
+profileIn table at = profileAt (shapeIn table) (drop at table)
 
 -- the records of profiles, one after the other
 unfoldable pub recordsBytes : List Profile → List ℕ
@@ -84,5 +96,5 @@ recordsBytes [] = []
 recordsBytes (p ∷ ps) = recordBytes p ++ recordsBytes ps
 
 -- a table of profiles
-abbrev pub tableBytes : List Profile → List ℕ
-tableBytes ps = tableVersion ∷ recordsBytes ps
+abbrev pub tableBytes : (version : ℕ) → List Profile → List ℕ
+tableBytes version ps = version ∷ recordsBytes ps

@@ -13,9 +13,9 @@ use Rattle.octets.specs.Bytes.{Bytes}
 use Rattle.words.specs.BigEndian.{bytes}
 use Rattle.names.specs.Name.{isRaisedName, profileLimit}
 use Rattle.names.specs.Order.{precedes}
-use Rattle.profile.specs.Profile.{Shape, version1, Profile, bodyLength, enabled, desAllowed, storedDes, storedSha, recordBytes}
+use Rattle.profile.specs.Profile.{Shape, shapeOf, Profile, bodyLength, enabled, desAllowed, storedDes, storedSha, recordBytes}
 use Rattle.profile.specs.Lookup.{oneProfile, profileNamed}
-use Rattle.profile.specs.Table.{profileCount, TableReading, profiles, tableRefused, profilesFrom, tableOf, recordsBytes, tableBytes}
+use Rattle.profile.specs.Table.{isVersion, profileCount, TableReading, profiles, tableRefused, profilesFrom, tableOf, versionOf, shapeIn, recordsBytes, tableBytes}
 
 -- a profile that a record of a shape can say
 pub record WellFormed (s : Shape) (p : Profile) : Type 0 where
@@ -35,15 +35,22 @@ RecordsReadBack =
     (s : Shape) → bodyLength s profileLimit < 2 ^ 16 → (room : ℕ) (before : List ℕ) (ps : List Profile)
     → Ascending s before ps → length ps ≤ room → profilesFrom s room before (recordsBytes ps) ≡ profiles ps
 
--- And so does a table of version 1.
+-- And so does a table of a version that is known.
 abbrev pub TablesReadBack : Type 0
-TablesReadBack = (ps : List Profile) → Ascending version1 [] ps → length ps ≤ profileCount → tableOf (tableBytes ps) ≡ profiles ps
+TablesReadBack =
+    (version : ℕ) → T (isVersion version) → (ps : List Profile) → Ascending (shapeOf version) [] ps → length ps ≤ profileCount
+    → tableOf (tableBytes version ps) ≡ profiles ps
 
--- What is read without refusal, written, gives the bytes; and it is well-formed, strictly ascending and not too many.
+-- a table of profiles that are well-formed, strictly ascending and not too many
+pub record IsTable (table : List ℕ) (ps : List Profile) : Type 0 where
+  pub known : T (isVersion (versionOf table))
+  pub bytes : tableBytes (versionOf table) ps ≡ table
+  pub ascending : Ascending (shapeIn table) [] ps
+  pub few : length ps ≤ profileCount
+
+-- What is read without refusal, written, gives the bytes.
 abbrev pub TablesWrittenBack : Type 0
-TablesWrittenBack =
-    (bs : List ℕ) (ps : List Profile) → Bytes bs → tableOf bs ≡ profiles ps
-    → (tableBytes ps ≡ bs) × (Ascending version1 [] ps × (length ps ≤ profileCount))
+TablesWrittenBack = (table : List ℕ) (ps : List Profile) → Bytes table → tableOf table ≡ profiles ps → IsTable table ps
 
 -- the name that the next record must come after; none, before the first
 unfoldable pub lastName : List Profile → List ℕ
@@ -52,24 +59,27 @@ lastName (p ∷ []) = p .name
 lastName (p ∷ q ∷ ps) = lastName (q ∷ ps)
 
 -- bytes at whose front there is no record of a well-formed profile
-abbrev pub Malformed : List ℕ → Type 0
-Malformed bs = (p : Profile) (more : List ℕ) → WellFormed version1 p → bs ≡ recordBytes p ++ more → ⊥
+abbrev pub Malformed : Shape → List ℕ → Type 0
+Malformed s bs = (p : Profile) (more : List ℕ) → WellFormed s p → bs ≡ recordBytes p ++ more → ⊥
 
 -- what the bytes after good records decide by the record at their front, whatever comes after it: 31, and then 32
-pub record FrontDecides (ps : List Profile) (rest : List ℕ) : Type 0 where
-  pub malformed : (rest ≡ [] → ⊥) → Malformed rest → tableOf (tableBytes ps ++ rest) ≡ tableRefused 31
-  pub misplaced : (p : Profile) (more : List ℕ) → WellFormed version1 p → rest ≡ recordBytes p ++ more
-      → (T (precedes (lastName ps) (p .name)) → ⊥) ⊎ (length ps ≡ 500) → tableOf (tableBytes ps ++ rest) ≡ tableRefused 32
+pub record FrontDecides (version : ℕ) (ps : List Profile) (rest : List ℕ) : Type 0 where
+  pub malformed : (rest ≡ [] → ⊥) → Malformed (shapeOf version) rest → tableOf (tableBytes version ps ++ rest) ≡ tableRefused 31
+  pub misplaced : (p : Profile) (more : List ℕ) → WellFormed (shapeOf version) p → rest ≡ recordBytes p ++ more
+      → (T (precedes (lastName ps) (p .name)) → ⊥) ⊎ (length ps ≡ 500) → tableOf (tableBytes version ps ++ rest) ≡ tableRefused 32
 
 -- "In tables, record by record, 31 before 32": the first record that is malformed, out of order or the 501st decides.
 abbrev pub FirstRecordDecides : Type 0
-FirstRecordDecides = (ps : List Profile) → Ascending version1 [] ps → length ps ≤ 500 → (rest : List ℕ) → Bytes rest → FrontDecides ps rest
+FirstRecordDecides =
+    (version : ℕ) → T (isVersion version) → (ps : List Profile) → Ascending (shapeOf version) [] ps → length ps ≤ 500
+    → (rest : List ℕ) → Bytes rest → FrontDecides version ps rest
 
 -- Ascending profiles make a table exactly where they are at most 500; "a 501st record" is 32.
 abbrev pub AtMost500 : Type 0
 AtMost500 =
-    (ps : List Profile) → Ascending version1 [] ps
-    → (length ps ≤ 500 → tableOf (tableBytes ps) ≡ profiles ps) × (500 < length ps → tableOf (tableBytes ps) ≡ tableRefused 32)
+    (version : ℕ) → T (isVersion version) → (ps : List Profile) → Ascending (shapeOf version) [] ps
+    → (length ps ≤ 500 → tableOf (tableBytes version ps) ≡ profiles ps)
+    × (500 < length ps → tableOf (tableBytes version ps) ≡ tableRefused 32)
 
 -- A record of 33 bytes: its length without the first two, flags 01X, a name of one letter, and the two tokens.
 abbrev pub exampleRecord : List ℕ

@@ -13,7 +13,8 @@ use Rattle.names.specs.Name.{raised, isName, isRaisedName, profileLimit}
 use Rattle.names.proofs.Held.{length-raised, raised-is-raised, raised-within}
 use Rattle.sha1.proofs.Digest.{length-sha1}
 use Rattle.password_sha.specs.Sha.{PW-token}
-use Rattle.profile.specs.Profile.{version1, flagsByte, tokenBytes, sumOf, bodyOf, recordBytes}
+use Rattle.profile.specs.Profile.{shapeOf, flagsByte, tokenBytes, sumOf, bodyOf, recordBytes}
+use Rattle.profile.specs.Table.{tableVersion}
 use Rattle.profile.specs.Theorems.{WellFormed}
 use Rattle.profile.proofs.Fronts.{length-body}
 use Rattle.profile_maker.specs.Made.{Making, hasDesToken, desTokenBytes, madeProfile}
@@ -28,7 +29,8 @@ unfolding PW-token
 length-sha name password = length-sha1 _
 
 module _ (m : Making) (good : isName profileLimit (m .name) ≡ true) where
-  pub formed : WellFormed version1 (madeProfile m)
+  pub formed : WellFormed (shapeOf tableVersion) (madeProfile m)
+  unfolding shapeOf
   formed = record {
     marks = refl;
     name = passes (isRaisedName profileLimit (raised (m .name))) (raised-is-raised profileLimit (m .name) ∙ good);
@@ -36,8 +38,8 @@ module _ (m : Making) (good : isName profileLimit (m .name) ≡ true) where
   }
 
   length-says : length (bodyOf (madeProfile m)) ≡ 30 + length (raised (m .name))
-  unfolding sumOf
-  length-says = omega (arith, length-body version1 (madeProfile m) formed)
+  unfolding shapeOf sumOf
+  length-says = omega (arith, length-body (shapeOf tableVersion) (madeProfile m) formed)
 
   pub laid : recordBytes (madeProfile m)
       ≡ laidOut (flagsByte (madeProfile m .marks)) (raised (m .name)) (desTokenBytes (m .name) (m .password)) (PW-token (m .name) (m .password))

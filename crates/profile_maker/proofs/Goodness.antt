@@ -15,7 +15,8 @@ use Rattle.octets.proofs.Choice.{choice}
 use Rattle.octets.proofs.Overwrite.{take-overwrite-front}
 use Rattle.names.specs.Name.{raised, isName, profileLimit}
 use Rattle.password_sha.specs.Sha.{isPassword}
-use Rattle.profile.specs.Profile.{version1, recordBytes}
+use Rattle.profile.specs.Profile.{shapeOf, sumOf, recordBytes}
+use Rattle.profile.specs.Table.{tableVersion}
 use Rattle.profile.specs.Theorems.{Ascending}
 use Rattle.profile.proofs.Tables.{tables-read-back}
 use Rattle.profile_maker.specs.declared.Made.{Made}
@@ -34,7 +35,7 @@ abbrev GoodIfWrote : Making → ℕ → Outcome Made → Type 0
 GoodIfWrote m n o = o .answer ≡ Wrote n → Good m n (take n (o .lent))
 
 pub made-records-are-good : MadeRecordsAreGood
-unfolding makeInto writeFront
+unfolding makeInto writeFront shapeOf sumOf
 made-records-are-good m out n =
     let bytes = recordBytes (madeProfile m) in
     choice (GoodIfWrote m n) (not (isName profileLimit (m .name)))
@@ -48,10 +49,10 @@ made-records-are-good m out n =
     let i : n ≡ length bytes = cc in
     record { size = omega (arith, size m good); bytes = rw i (take-overwrite-front out bytes); formed = formed m good })))
 
-ascending : (before : List ℕ) (ms : List Making) → AscendingMakings before ms → Ascending version1 before (map madeProfile ms)
+ascending : (before : List ℕ) (ms : List Making) → AscendingMakings before ms → Ascending (shapeOf tableVersion) before (map madeProfile ms)
 ascending before [] asc = tt
 ascending before (m ∷ ms) (good, (_, (after, asc))) =
     (formed m (is-true (isName profileLimit (m .name)) good), (after, ascending (raised (m .name)) ms asc))
 
 pub made-tables-read : MadeTablesRead
-made-tables-read ms asc few = tables-read-back (map madeProfile ms) (ascending [] ms asc) (omega (arith, length-map ms madeProfile, few))
+made-tables-read ms asc few = tables-read-back tableVersion tt (map madeProfile ms) (ascending [] ms asc) (omega (arith, length-map ms madeProfile, few))

@@ -8,8 +8,8 @@ use lib.ListN.{length, take}
 use Rattle.names.specs.Name.{raised, isName, profileLimit}
 use Rattle.names.specs.Order.{precedes}
 use Rattle.password_sha.specs.Sha.{isPassword}
-use Rattle.profile.specs.Profile.{version1, recordBytes}
-use Rattle.profile.specs.Table.{profileCount, profiles, tableOf, tableBytes}
+use Rattle.profile.specs.Profile.{shapeOf, recordLength, recordBytes}
+use Rattle.profile.specs.Table.{tableVersion, profileCount, profiles, tableOf, tableBytes}
 use Rattle.profile.specs.Theorems.{WellFormed}
 use Rattle.profile_maker.specs.declared.Made.the-variants.{Wrote}
 use Rattle.profile_maker.specs.Made.{Making, madeProfile}
@@ -17,9 +17,9 @@ use Rattle.profile_maker.specs.Promise.{makeInto}
 
 -- the n bytes that were written are the record of a profile that is well-formed
 pub record Good (m : Making) (n : ℕ) (written : List ℕ) : Type 0 where
-  pub size : n ≡ 32 + length (m .name)
+  pub size : n ≡ recordLength (shapeOf tableVersion) (length (m .name))
   pub bytes : written ≡ recordBytes (madeProfile m)
-  pub formed : WellFormed version1 (madeProfile m)
+  pub formed : WellFormed (shapeOf tableVersion) (madeProfile m)
 
 -- Where the token maker answers that it wrote n bytes, the first n of what was lent are the record of a well-formed
 -- profile.
@@ -37,4 +37,5 @@ AscendingMakings before (m ∷ ms) =
 -- A table of made records in ascending order is accepted, and reads as the profiles that were made.
 abbrev pub MadeTablesRead : Type 0
 MadeTablesRead =
-    (ms : List Making) → AscendingMakings [] ms → length ms ≤ profileCount → tableOf (tableBytes (map madeProfile ms)) ≡ profiles (map madeProfile ms)
+    (ms : List Making) → AscendingMakings [] ms → length ms ≤ profileCount
+    → tableOf (tableBytes tableVersion (map madeProfile ms)) ≡ profiles (map madeProfile ms)

@@ -1,4 +1,3 @@
-pub mod Records
 pub mod Stepping
 pub mod Whole
 pub mod Meaning

@@ -8,22 +8,24 @@ use lib.ListN.{length, drop}
 use lib.Seq.{drop-drop, drop-append-seam}
 use Rattle.octets.specs.Same.{same}
 use Rattle.octets.proofs.Choice.{choice₂}
-use Rattle.profile.specs.Profile.{version1, Profile, sumOf, recordBytes}
-use Rattle.profile.specs.Table.{profileAt, recordsBytes}
+use Rattle.profile.specs.Profile.{Profile, recordBytes}
+use Rattle.profile.specs.Table.{profileAt, shapeIn, profileIn, versionOf, recordsBytes}
 use Rattle.profile.specs.Lookup.{noProfile, oneProfile, profileNamed}
 use Rattle.profile.specs.Theorems.{Ascending}
 use Rattle.profile.proofs.Fronts.{fronts}
+use Rattle.profile.proofs.Shapes.{short}
 use Rattle.profile.proofs.Backs.{tables-written-back}
 use Rattle.profile_table.specs.Answer.{entry, foundFrom, foundIn}
-use Rattle.profile_table.specs.Theorems.{standing, Tells, FoundIsNamed}
+use Rattle.profile_table.specs.Theorems.{Tells, FoundIsNamed}
 
 -- the records of profiles stand from a place on
-tells-from : (table before : List ℕ) (at : ℕ) (ps : List Profile) → Ascending version1 before ps → drop at table ≡ recordsBytes ps
+tells-from : (table before : List ℕ) (at : ℕ) (ps : List Profile) → Ascending (shapeIn table) before ps → drop at table ≡ recordsBytes ps
     → (name : List ℕ) → Tells table (profileNamed name ps) (foundFrom at name ps)
-unfolding profileNamed foundFrom recordsBytes sumOf
+unfolding profileNamed foundFrom recordsBytes
 tells-from table before at [] asc there name = refl
 tells-from table before at (p ∷ ps) (w, (o, asc)) there name =
-    let here : p ≡ standing table at = sym (ap (profileAt version1) there ∙ fronts version1 p (recordsBytes ps) w (omega arith) .says) in
+    let here : p ≡ profileIn table at =
+    sym (ap (profileAt (shapeIn table)) there ∙ fronts (shapeIn table) p (recordsBytes ps) w (short (versionOf table)) .says) in
     let after : drop (at + length (recordBytes p)) table ≡ recordsBytes ps =
     sym (drop-drop (length (recordBytes p)) at table) ∙ ap (drop (length (recordBytes p))) there ∙ drop-append-seam (recordBytes p) (recordsBytes ps) in
     choice₂ (Tells table) (same name (p .name))
@@ -34,4 +36,4 @@ pub found-is-named : FoundIsNamed
 unfolding foundIn
 found-is-named table ps bytes e name =
     let back = tables-written-back table ps bytes e in
-    rw e (tells-from table [] 1 ps (back .1 .0) (sym (ap (drop 1) (back .0))) name)
+    rw e (tells-from table [] 1 ps (back .ascending) (sym (ap (drop 1) (back .bytes))) name)

@@ -19,8 +19,8 @@ use Rattle.names.specs.declared.Name.{Name}
 use Rattle.names.specs.Name.{raised, isName, isRaisedName, name, named, profileLimit}
 use Rattle.names.specs.Padding.{filled}
 use Rattle.names.proofs.Held.{raised-is-raised, held-within, held-bytes}
-use Rattle.profile.specs.Profile.{Shape, version1, Profile, recordBytes}
-use Rattle.profile.specs.Table.{profileCount, profilesFrom, TableReading, profiles, tableRefused, tableOf}
+use Rattle.profile.specs.Profile.{Shape, Profile, recordBytes}
+use Rattle.profile.specs.Table.{profileCount, profilesFrom, TableReading, profiles, tableRefused, tableOf, shapeIn}
 use Rattle.profile.specs.Theorems.{Ascending}
 use Rattle.profile.proofs.Backs.{TableMeans, table-means}
 use Rattle.profile_table.specs.declared.TableCheck.the-variants.{Profiles, Refused as NotRead}
@@ -29,7 +29,7 @@ use Rattle.profile_table.specs.declared.Scan.{Scan}
 use Rattle.profile_table.specs.declared.Found.{Found}
 use Rattle.profile_table.specs.declared.Found.the-variants.{Present, Absent, Refused}
 use Rattle.profile_table.specs.Answer.{checked, entry, foundFrom, foundIn}
-use Rattle.profile_table.specs.internal.Steps.{recordsAfter, scanned}
+use Rattle.profile_table.specs.internal.Steps.{scanned}
 
 pub no-table : (t : List ℕ) → length t ≡ 0 → tableOf t ≡ tableRefused badTable
 unfolding tableOf
@@ -41,7 +41,7 @@ unfolding tableOf
 other-version [] h n = absurd (omega arith)
 other-version (v ∷ bs) h n = rw (ne-eqb v 1 n)
 
-pub by-records : (t : List ℕ) → 0 < length t → getD t 0 0 ≡ 1 → tableOf t ≡ recordsAfter 0 [] (drop 1 t)
+pub by-records : (t : List ℕ) → 0 < length t → getD t 0 0 ≡ 1 → tableOf t ≡ profilesFrom (shapeIn t) profileCount [] (drop 1 t)
 unfolding tableOf
 by-records [] h e = absurd (omega arith)
 by-records (v ∷ bs) h e = rw (eq-eqb v 1 e)
@@ -87,7 +87,7 @@ unnamed-from s before n at (p ∷ ps) bad (w, (o, asc)) =
 
 unnamed : (t m n : List ℕ) (r : TableReading) → TableMeans t r → isRaisedName profileLimit m ≡ false → isRaisedName profileLimit n ≡ false → foundIn m r ≡ foundIn n r
 unfolding foundIn
-unnamed t m n (profiles ps) means a b = unnamed-from version1 [] m 1 ps a (means .1 .0) ∙ sym (unnamed-from version1 [] n 1 ps b (means .1 .0))
+unnamed t m n (profiles ps) means a b = unnamed-from (shapeIn t) [] m 1 ps a (means .ascending) ∙ sym (unnamed-from (shapeIn t) [] n 1 ps b (means .ascending))
 unnamed t m n (tableRefused k) means a b = refl
 
 -- the name that is held of a text finds what the text raised finds

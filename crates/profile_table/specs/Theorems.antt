@@ -2,24 +2,19 @@
 use mathlib.Core.Path.{_≡_}
 use mathlib.Core.List.{List}
 use Prim.Native.Nat.{ℕ}
-use lib.ListN.{drop}
 use Rattle.octets.specs.Bytes.{Bytes}
-use Rattle.profile.specs.Profile.{version1, Profile}
-use Rattle.profile.specs.Table.{profiles, profileAt, tableOf}
+use Rattle.profile.specs.Profile.{Profile}
+use Rattle.profile.specs.Table.{profiles, tableOf, profileIn}
 use Rattle.profile.specs.Lookup.{ProfileLookup, noProfile, oneProfile, profileNamed}
 use Rattle.profile_table.specs.declared.Found.{Found}
 use Rattle.profile_table.specs.declared.Found.the-variants.{Present, Absent, Refused}
 use Rattle.profile_table.specs.Answer.{entry, foundIn}
 
--- the profile whose record stands at a place
-abbrev pub standing : List ℕ → ℕ → Profile
-standing table at = profileAt version1 (drop at table)
-
 -- what a look-up in the profiles of a table must be, by its answer: none, or the profile that stands at the answer's
 -- place, with its marks
 abbrev pub Tells : List ℕ → ProfileLookup → Found → Type 0
 Tells table l Absent = l ≡ noProfile
-Tells table l (Present e) = (l ≡ oneProfile (standing table (e .at))) × (e ≡ entry (e .at) (standing table (e .at)))
+Tells table l (Present e) = (l ≡ oneProfile (profileIn table (e .at))) × (e ≡ entry (e .at) (profileIn table (e .at)))
 Tells table l (Refused n) = ⊥
 
 -- In a table that reads as profiles a look-up answers by those profiles.

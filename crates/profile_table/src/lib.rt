@@ -2,22 +2,14 @@
 // look at each byte at most six times; nothing is copied but a name. What a table says is `profile`'s `tableOf`; what
 // is answered stands in `specs/Answer.antt`.
 ghost use mathlib.Core.Path.{_≡_};
-ghost use Prim.Native.Nat.{_+_, _*_, _≤_, _<_};
+ghost use Prim.Native.Nat.{_+_, _≤_, _<_};
 ghost use mathlib.Core.List.{[]};
 ghost use lib.ListN.{length, drop};
 ghost use Rattle.names.specs.Name.{raised};
-ghost use Rattle.profile.specs.Profile.{version1};
-ghost use Rattle.profile.specs.Table.{nameLengthAt, profileAt, isRecord, tableOf};
+ghost use Rattle.profile.specs.Table.{profileCount, nameLengthAt, profilesFrom, tableOf, shapeIn, profileIn};
 ghost use Rattle.profile_table.specs.Answer.{checked, entry, foundIn};
-ghost use Rattle.profile_table.specs.internal.Steps.{Stepped, recordsAfter, foundHere, scan, scanned};
-
-// How many profiles a table has at most.
-pub const PROFILE_COUNT: usize = 500;
-
-// How long a record is besides its name, and what its length says of that.
-const RECORD_LENGTH: usize = 32;
-
-const BODY_LENGTH: usize = 30;
+ghost use Rattle.profile_table.specs.internal.Steps.{foundHere, scanned};
+use profile_record::Step;
 
 // How many profiles a table has, or the number of a refusal.
 pub enum TableCheck {
@@ -39,65 +31,18 @@ pub enum Found {
     Refused(u8),
 }
 
-// A record, by the length of its name, or the refusal of the table.
-enum Step {
-    Next(usize),
-    Stop(u8),
-}
-
 // How many profiles there are, and what was found among them.
 struct Scan {
     count: usize,
     found: Found,
 }
 
-// The number of two bytes, the high one first.
-fn pair(high: u8, low: u8) -> usize
-    ensures { λ r. ⌜ r ≡ high * 256 + low ⌝ }
+// The entry of the record at a place.
+fn entry_of(table: &[u8], at: usize) -> Entry
+    requires { ⌜ at + 4 ≤ length (now table) ⌝ }
+    ensures { λ r. ⌜ r ≡ entry at (profileIn (now (table .entry)) at) ⌝ }
 {
-    (high as usize) * 256 + (low as usize)
-}
-
-// Whether a well-formed record stands at the front of bytes. Flags up to 03X have no bit besides 01X and 02X.
-fn is_record(bytes: &[u8]) -> bool
-    ensures { λ r. ⌜ r ≡ isRecord version1 (now (bytes .entry)) ⌝ }
-{
-    let n = octets_part::byte_at(bytes, 3) as usize;
-    if bytes.len() < RECORD_LENGTH + n {
-        return false;
-    }
-    if pair(bytes[0], bytes[1]) != BODY_LENGTH + n {
-        return false;
-    }
-    if 3 < bytes[2] {
-        return false;
-    }
-    names_order::is_raised_name(&bytes[4..4 + n], 10)
-}
-
-// The record at the front of bytes, after `count` profiles, the last of which has the name `before`.
-fn next_record(bytes: &[u8], before: &[u8], count: usize) -> Step
-    requires { ⌜ 0 < length (now bytes) ⌝ }
-    ensures { λ r. ⌜ Stepped count (now (before .entry)) (now (bytes .entry)) r ⌝ }
-{
-    if !is_record(bytes) {
-        return Step::Stop(refusal::BAD_PROFILE);
-    }
-    if PROFILE_COUNT <= count {
-        return Step::Stop(refusal::PROFILES_NOT_ASCENDING);
-    }
-    let n = octets_part::byte_at(bytes, 3) as usize;
-    if !names_order::precedes(before, &bytes[4..4 + n]) {
-        return Step::Stop(refusal::PROFILES_NOT_ASCENDING);
-    }
-    Step::Next(n)
-}
-
-// The entry of the record at the front of bytes, which stands at a place.
-fn entry_of(bytes: &[u8], at: usize) -> Entry
-    ensures { λ r. ⌜ r ≡ entry at (profileAt version1 (now (bytes .entry))) ⌝ }
-{
-    let flags = octets_part::byte_at(bytes, 2);
+    let flags = table[at + 2];
     Entry {
         at,
         enabled: flags % 2 == 1,
@@ -105,15 +50,15 @@ fn entry_of(bytes: &[u8], at: usize) -> Entry
     }
 }
 
-// What was found, or else the record at the front of bytes, if it has the name.
-fn find_here(found: Found, bytes: &[u8], n: usize, at: usize, name: &[u8]) -> Found
-    requires { ⌜ (nameLengthAt (now bytes) ≡ n) × (4 + n ≤ length (now bytes)) ⌝ }
-    ensures { λ r. ⌜ r ≡ foundHere at (now (name .entry)) (profileAt version1 (now (bytes .entry))) found ⌝ }
+// What was found, or else the record at a place, whose name has `n` bytes, if it is the name that is looked for.
+fn find_here(found: Found, table: &[u8], at: usize, n: usize, name: &[u8]) -> Found
+    requires { ⌜ (nameLengthAt (drop at (now table)) ≡ n) × (at + 4 + n ≤ length (now table)) ⌝ }
+    ensures { λ r. ⌜ r ≡ foundHere at (now (name .entry)) (profileIn (now (table .entry)) at) found ⌝ }
 {
     match found {
         Found::Absent => {
-            if octets::same(name, &bytes[4..4 + n]) {
-                return Found::Present(entry_of(bytes, at));
+            if octets::same(name, &table[at + 4..at + 4 + n]) {
+                return Found::Present(entry_of(table, at));
             }
             return Found::Absent;
         }
@@ -125,15 +70,22 @@ fn find_here(found: Found, bytes: &[u8], n: usize, at: usize, name: &[u8]) -> Fo
 // The records after the version byte, and the profile of a name among them.
 fn scan_records(table: &[u8], name: &[u8]) -> Scan
     requires { ⌜ 0 < length (now table) ⌝ }
-    ensures { λ r. ⌜ r ≡ scanned (now (name .entry)) (recordsAfter 0 [] (drop 1 (now (table .entry)))) ⌝ }
+    ensures { λ r. ⌜ r ≡ scanned (now (name .entry)) (profilesFrom (shapeIn (now (table .entry))) profileCount [] (drop 1 (now (table .entry)))) ⌝ }
 {
+    let version = table[0];
+    let fixed = profile_record::record_length(version);
     let mut at: usize = 1;
     let mut before: usize = 1;
     let mut before_end: usize = 1;
     let mut count: usize = 0;
     let mut found = Found::Absent;
     while at < table.len() {
-        match next_record(&table[at..], &table[before..before_end], count) {
+        match profile_record::next_record(
+            version,
+            &table[at..],
+            &table[before..before_end],
+            count,
+        ) {
             Step::Stop(number) => {
                 return Scan {
                     count: 0,
@@ -141,10 +93,10 @@ fn scan_records(table: &[u8], name: &[u8]) -> Scan
                 };
             }
             Step::Next(n) => {
-                found = find_here(found, &table[at..], n, at, name);
+                found = find_here(found, table, at, n, name);
                 before = at + 4;
                 before_end = at + 4 + n;
-                at = at + RECORD_LENGTH + n;
+                at = at + fixed + n;
                 count += 1;
             }
         }
@@ -162,7 +114,7 @@ fn scan_table(table: &[u8], name: &[u8]) -> Scan
             found: Found::Refused(refusal::BAD_TABLE),
         };
     }
-    if table[0] != 1 {
+    if table[0] != profile::TABLE_VERSION {
         return Scan {
             count: 0,
             found: Found::Refused(refusal::BAD_TABLE),

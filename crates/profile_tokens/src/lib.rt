@@ -2,8 +2,8 @@
 ghost use mathlib.Core.Path.{_≡_};
 ghost use Prim.Native.Nat.{_+_, _<_};
 ghost use lib.ListN.{take, drop};
-ghost use Rattle.profile.specs.Profile.{version1, desAllowed, storedDes, storedSha};
-ghost use Rattle.profile.specs.Table.{nameLengthAt, profileAt};
+ghost use Rattle.profile.specs.Profile.{desAllowed, storedDes, storedSha};
+ghost use Rattle.profile.specs.Table.{nameLengthAt, profileIn};
 
 // The bytes of a table from a place on, or none after its end.
 fn record_at(table: &[u8], at: usize) -> &[u8]
@@ -25,21 +25,21 @@ fn token_part(table: &[u8], at: usize, from: usize, count: usize) -> &[u8]
 // The DES token of the profile whose record stands at a place that `profile_table::find` gave; at any other place, what
 // stands there as if it were one.
 pub fn des_token(table: &[u8], at: usize) -> &[u8]
-    ensures { λ r. ⌜ now r ≡ storedDes (profileAt version1 (drop at (now (table .entry)))) ⌝ }
+    ensures { λ r. ⌜ now r ≡ storedDes (profileIn (now (table .entry)) at) ⌝ }
 {
     token_part(table, at, 0, 8)
 }
 
 // And its SHA-1 token.
 pub fn sha_token(table: &[u8], at: usize) -> &[u8]
-    ensures { λ r. ⌜ now r ≡ storedSha (profileAt version1 (drop at (now (table .entry)))) ⌝ }
+    ensures { λ r. ⌜ now r ≡ storedSha (profileIn (now (table .entry)) at) ⌝ }
 {
     token_part(table, at, 8, 20)
 }
 
 // Whether its flags allow DES.
 pub fn des_allowed(table: &[u8], at: usize) -> bool
-    ensures { λ r. ⌜ r ≡ desAllowed (profileAt version1 (drop at (now (table .entry)))) ⌝ }
+    ensures { λ r. ⌜ r ≡ desAllowed (profileIn (now (table .entry)) at) ⌝ }
 {
     let flags = octets_part::byte_at(record_at(table, at), 2);
     flags / 2 % 2 == 1

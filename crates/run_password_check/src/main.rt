@@ -10,19 +10,19 @@
 
 fn gives(
     letter: u8,
-    stored: &[u8],
+    token: &[u8],
     name: &[u8],
     server_seed: &[u8],
     client_seed: &[u8],
     offered: &[u8],
 ) -> bool {
     if letter == b'D' {
-        return password_check::gives_des(stored, name, server_seed, client_seed, offered);
+        return password_check::gives_des(token, name, server_seed, client_seed, offered);
     }
     if letter == b'S' {
-        return password_check::gives_sha(stored, name, server_seed, client_seed, offered);
+        return password_check::gives_sha(token, name, server_seed, client_seed, offered);
     }
-    password_check::gives_clear(name, offered, stored)
+    password_check::gives_clear(token, name, offered)
 }
 
 fn say(answer: bool) {
@@ -34,14 +34,14 @@ fn say(answer: bool) {
 }
 
 // The stored token begins after the five counts.
-fn run_case(letter: u8, stored: u8, name: u8, server: u8, client: u8, offered: u8, case: &[u8]) {
-    let name_at = 5 + stored as usize;
+fn run_case(letter: u8, token: u8, name: u8, server: u8, client: u8, offered: u8, case: &[u8]) {
+    let name_at = 5 + token as usize;
     let server_at = name_at + name as usize;
     let client_at = server_at + server as usize;
     let offered_at = client_at + client as usize;
     say(gives(
         letter,
-        octets_part::part(case, 5, stored as usize),
+        octets_part::part(case, 5, token as usize),
         octets_part::part(case, name_at, name as usize),
         octets_part::part(case, server_at, server as usize),
         octets_part::part(case, client_at, client as usize),

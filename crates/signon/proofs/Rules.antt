@@ -14,11 +14,12 @@ use borrow.Author.Tests.{eq-eqb, not-true}
 use Rattle.octets.specs.Same.{same}
 use Rattle.octets.proofs.Equality.{same-sound, same-refl}
 use Rattle.names.specs.Name.{isName, profileLimit}
-use Rattle.profile.specs.Profile.{version1, Profile, desAllowed, storedDes, storedSha}
+use Rattle.profile.specs.Profile.{shapeOf, Profile, desAllowed, storedDes, storedSha}
 use Rattle.profile.specs.Theorems.{WellFormed}
+use Rattle.profile.proofs.Shapes.{token-lengths}
 use Rattle.password_sha.specs.Sha.{isPassword, PW-token, PW-SUB}
 use Rattle.password_check.specs.Gives.{desLength, shaLength, seedLength, areSeeds, desSubstituteOf, givesClear, givesDes, givesSha}
-use Rattle.signon.specs.Attempt.{isClear, clearPassword, isDesSubstitute, isShaSubstitute}
+use Rattle.signon.specs.Attempt.{isClear, isClearPassword, isDesSubstitute, isShaSubstitute}
 use Rattle.signon.specs.Theorems.{zeroSeed, BySubstitute, ByPassword}
 
 -- a test that cannot hold does not
@@ -51,87 +52,83 @@ other-seed : (seed : List ℕ) → length seed ≡ seedLength → (seed ≡ zero
 other-seed seed eight other =
     no-so (isClear seed) (λ t. ⊎-elim (λ e. omega (arith, ap length e)) other (clear-seed seed t))
 
-module _ (p : Profile) (formed : WellFormed version1 p) (user : List ℕ) (good : isName profileLimit user ≡ true) where
-  token-length : (i : ℕ) → length (getD (p .tokens) i []) ≡ getD (8 ∷ 20 ∷ []) i 0
-  token-length i = sym (List·getD-map length (p .tokens) i []) ∙ ap (λ l. getD l i 0) (formed .tokens)
-
-  module _ (seed value : List ℕ) where
-    pub clear-says : T (clearPassword user seed value p) → ByPassword user seed value p
-    unfolding clearPassword givesClear
+module _ (v : ℕ) (p : Profile) (formed : WellFormed (shapeOf v) p) (user : List ℕ) (good : isName profileLimit user ≡ true) where
+  module _ (serverSeed : List ℕ) (eight : length serverSeed ≡ seedLength) (seed value : List ℕ) where
+    pub clear-says : T (isClearPassword p user serverSeed seed value) → ByPassword p user seed value
+    unfolding isClearPassword givesClear
     clear-says t =
         let c = and-yes (isClear seed) _ t in
         let g = and-yes (isPassword value) _ (and-yes (isName profileLimit user) _ (c .1) .1) in
         record { seed = clear-seed seed (c .0); password = g .0; gives = same-sound (PW-token user value) (storedSha p) (g .1) }
 
-    pub clear-said : ByPassword user seed value p → T (clearPassword user seed value p)
-    unfolding clearPassword givesClear
+    pub clear-said : ByPassword p user seed value → T (isClearPassword p user serverSeed seed value)
+    unfolding isClearPassword givesClear
     clear-said b =
         yes-and (isClear seed) _ (seed-clear seed (b .seed))
         (yes-and (isName profileLimit user) _ (passes (isName profileLimit user) good)
         (yes-and (isPassword value) _ (b .password) (same-equal (PW-token user value) (storedSha p) (b .gives))))
 
-    module _ (serverSeed : List ℕ) (eight : length serverSeed ≡ seedLength) where
-      -- what both substitutes ask, besides the token's own length
-      abbrev asked : List ℕ → Bool
-      asked substitute = areSeeds serverSeed seed && (isName profileLimit user && same substitute value)
+    -- what both substitutes ask, besides the token's own length
+    abbrev asked : List ℕ → Bool
+    asked substitute = areSeeds serverSeed seed && (isName profileLimit user && same substitute value)
 
-      pub record Gives (substitute : List ℕ) : Type 0 where
-        pub length : length seed ≡ seedLength
-        pub notZero : seed ≡ zeroSeed → ⊥
-        pub is : value ≡ substitute
+    pub record Gives (substitute : List ℕ) : Type 0 where
+      pub length : length seed ≡ seedLength
+      pub notZero : seed ≡ zeroSeed → ⊥
+      pub is : value ≡ substitute
 
-      asked-says : (substitute : List ℕ) → isClear seed ≡ false → T (asked substitute) → Gives substitute
-      asked-says substitute other t =
-          let s = and-yes (areSeeds serverSeed seed) _ t in
-          let n = and-yes (isName profileLimit user) _ (s .1) in
-          record {
-            length = eqb→eq (length seed) seedLength (and-yes (eqb (length serverSeed) seedLength) (eqb (length seed) seedLength) (s .0) .1);
-            notZero = λ e. subst T other (seed-clear seed (inr e));
-            is = sym (same-sound substitute value (n .1));
-          }
+    asked-says : (substitute : List ℕ) → isClear seed ≡ false → T (asked substitute) → Gives substitute
+    asked-says substitute other t =
+        let s = and-yes (areSeeds serverSeed seed) _ t in
+        let n = and-yes (isName profileLimit user) _ (s .1) in
+        record {
+          length = eqb→eq (length seed) seedLength (and-yes (eqb (length serverSeed) seedLength) (eqb (length seed) seedLength) (s .0) .1);
+          notZero = λ e. subst T other (seed-clear seed (inr e));
+          is = sym (same-sound substitute value (n .1));
+        }
 
-      said-asked : (substitute : List ℕ) → Gives substitute → T (asked substitute)
-      said-asked substitute g =
-          yes-and (areSeeds serverSeed seed) _
-          (yes-and (eqb (length serverSeed) seedLength) (eqb (length seed) seedLength)
-          (passes (eqb (length serverSeed) seedLength) (eq-eqb _ _ eight)) (passes (eqb (length seed) seedLength) (eq-eqb _ _ (g .length))))
-          (yes-and (isName profileLimit user) _ (passes (isName profileLimit user) good) (same-equal substitute value (sym (g .is))))
+    said-asked : (substitute : List ℕ) → Gives substitute → T (asked substitute)
+    said-asked substitute g =
+        yes-and (areSeeds serverSeed seed) _
+        (yes-and (eqb (length serverSeed) seedLength) (eqb (length seed) seedLength)
+        (passes (eqb (length serverSeed) seedLength) (eq-eqb _ _ eight)) (passes (eqb (length seed) seedLength) (eq-eqb _ _ (g .length))))
+        (yes-and (isName profileLimit user) _ (passes (isName profileLimit user) good) (same-equal substitute value (sym (g .is))))
 
-      pub des-says : T (isDesSubstitute serverSeed user seed value p) → BySubstitute serverSeed user seed value p
-      unfolding isDesSubstitute givesDes
-      des-says t =
-          let c = and-yes (not (isClear seed)) _ t in
-          let d = and-yes (desAllowed p) _ (c .1) in
-          let g = asked-says (desSubstituteOf (storedDes p) user serverSeed seed) (not-yes (isClear seed) (c .0))
-          (and-yes (eqb (length (storedDes p)) desLength) _ (d .1) .1) in
-          record { seed = g .length; notZero = g .notZero; gives = inl (d .0, g .is) }
+    pub des-says : T (isDesSubstitute p user serverSeed seed value) → BySubstitute p user serverSeed seed value
+    unfolding isDesSubstitute givesDes
+    des-says t =
+        let c = and-yes (not (isClear seed)) _ t in
+        let d = and-yes (desAllowed p) _ (c .1) in
+        let g = asked-says (desSubstituteOf (storedDes p) user serverSeed seed) (not-yes (isClear seed) (c .0))
+        (and-yes (eqb (length (storedDes p)) desLength) _ (d .1) .1) in
+        record { seed = g .length; notZero = g .notZero; gives = inl (d .0, g .is) }
 
-      pub sha-says : T (isShaSubstitute serverSeed user seed value p) → BySubstitute serverSeed user seed value p
-      unfolding isShaSubstitute givesSha
-      sha-says t =
-          let c = and-yes (not (isClear seed)) _ t in
-          let g = asked-says (PW-SUB (storedSha p) serverSeed seed user) (not-yes (isClear seed) (c .0))
-          (and-yes (eqb (length (storedSha p)) shaLength) _ (c .1) .1) in
-          record { seed = g .length; notZero = g .notZero; gives = inr (g .is) }
+    pub sha-says : T (isShaSubstitute p user serverSeed seed value) → BySubstitute p user serverSeed seed value
+    unfolding isShaSubstitute givesSha
+    sha-says t =
+        let c = and-yes (not (isClear seed)) _ t in
+        let g = asked-says (PW-SUB (storedSha p) serverSeed seed user) (not-yes (isClear seed) (c .0))
+        (and-yes (eqb (length (storedSha p)) shaLength) _ (c .1) .1) in
+        record { seed = g .length; notZero = g .notZero; gives = inr (g .is) }
 
-      des-said : length seed ≡ seedLength → (seed ≡ zeroSeed → ⊥) → T (desAllowed p) → value ≡ desSubstituteOf (storedDes p) user serverSeed seed
-          → T (isDesSubstitute serverSeed user seed value p)
-      unfolding isDesSubstitute givesDes
-      des-said l z d e =
-          yes-and (not (isClear seed)) _ (yes-not (isClear seed) (other-seed seed l z))
-          (yes-and (desAllowed p) _ d
-          (yes-and (eqb (length (storedDes p)) desLength) _ (passes (eqb (length (storedDes p)) desLength) (eq-eqb _ _ (token-length 0)))
-          (said-asked (desSubstituteOf (storedDes p) user serverSeed seed) (record { length = l; notZero = z; is = e }))))
+    des-said : length seed ≡ seedLength → (seed ≡ zeroSeed → ⊥) → T (desAllowed p) → value ≡ desSubstituteOf (storedDes p) user serverSeed seed
+        → T (isDesSubstitute p user serverSeed seed value)
+    unfolding isDesSubstitute givesDes
+    des-said l z d e =
+        yes-and (not (isClear seed)) _ (yes-not (isClear seed) (other-seed seed l z))
+        (yes-and (desAllowed p) _ d
+        (yes-and (eqb (length (storedDes p)) desLength) _ (passes (eqb (length (storedDes p)) desLength) (eq-eqb _ _ (token-lengths v p formed .0)))
+        (said-asked (desSubstituteOf (storedDes p) user serverSeed seed) (record { length = l; notZero = z; is = e }))))
 
-      sha-said : length seed ≡ seedLength → (seed ≡ zeroSeed → ⊥) → value ≡ PW-SUB (storedSha p) serverSeed seed user
-          → T (isShaSubstitute serverSeed user seed value p)
-      unfolding isShaSubstitute givesSha
-      sha-said l z e =
-          yes-and (not (isClear seed)) _ (yes-not (isClear seed) (other-seed seed l z))
-          (yes-and (eqb (length (storedSha p)) shaLength) _ (passes (eqb (length (storedSha p)) shaLength) (eq-eqb _ _ (token-length 1)))
-          (said-asked (PW-SUB (storedSha p) serverSeed seed user) (record { length = l; notZero = z; is = e })))
+    sha-said : length seed ≡ seedLength → (seed ≡ zeroSeed → ⊥) → value ≡ PW-SUB (storedSha p) serverSeed seed user
+        → T (isShaSubstitute p user serverSeed seed value)
+    unfolding isShaSubstitute givesSha
+    sha-said l z e =
+        yes-and (not (isClear seed)) _ (yes-not (isClear seed) (other-seed seed l z))
+        (yes-and (eqb (length (storedSha p)) shaLength) _ (passes (eqb (length (storedSha p)) shaLength) (eq-eqb _ _ (token-lengths v p formed .1)))
+        (said-asked (PW-SUB (storedSha p) serverSeed seed user) (record { length = l; notZero = z; is = e })))
 
-      pub substitute-said : BySubstitute serverSeed user seed value p
-          → T (isDesSubstitute serverSeed user seed value p) ⊎ T (isShaSubstitute serverSeed user seed value p)
-      substitute-said b =
-          ⊎-elim (λ d. inl (des-said (b .seed) (b .notZero) (d .0) (d .1))) (λ e. inr (sha-said (b .seed) (b .notZero) e)) (b .gives)
+    pub substitute-said : BySubstitute p user serverSeed seed value
+        → T (isDesSubstitute p user serverSeed seed value) ⊎ T (isShaSubstitute p user serverSeed seed value)
+    substitute-said b =
+        ⊎-elim (λ d. inl (des-said (b .seed) (b .notZero) (d .0) (d .1))) (λ e. inr (sha-said (b .seed) (b .notZero) e)) (b .gives)

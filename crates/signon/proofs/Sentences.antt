@@ -14,14 +14,14 @@ use Rattle.octets.proofs.Choice.{choice}
 use Rattle.env.specs.Variable.{Variable, VAR, USERVAR, repeated, Lookup, absent, present, lookup, valueOr}
 use Rattle.names.specs.Name.{raised, isName, isRaisedName, profileLimit}
 use Rattle.names.proofs.Held.{raised-is-raised}
-use Rattle.profile.specs.Profile.{Shape, version1, Profile, enabled}
+use Rattle.profile.specs.Profile.{Shape, shapeOf, Profile, enabled}
 use Rattle.profile.specs.Lookup.{ProfileLookup, noProfile, oneProfile, profileNamed}
 use Rattle.profile.specs.Theorems.{WellFormed, Ascending, Occurs}
 use Rattle.profile.proofs.Members.{lookup-is-membership}
 use Rattle.password_check.specs.Gives.{seedLength}
 use Rattle.signon.specs.declared.Verdict.{Verdict}
 use Rattle.signon.specs.declared.Verdict.the-variants.{Panel, NotKnown, Disabled, Failed, Grant}
-use Rattle.signon.specs.Attempt.{USER, IBMRSEED, IBMSUBSPW, Attempt, attempt, clearPassword, isDesSubstitute, isShaSubstitute}
+use Rattle.signon.specs.Attempt.{USER, IBMRSEED, IBMSUBSPW, Attempt, attemptBy, attempt, isClearPassword, isDesSubstitute, isShaSubstitute}
 use Rattle.signon.specs.Verdict.{firstOf, grantConditions, profileConditions, conditions, verdictOf}
 use Rattle.signon.specs.Theorems.{Told, Named, BySubstitute, ByPassword, Granted, OneTold, NoneNamed, NamedWith, Sentence}
 use Rattle.signon.proofs.Lookups.{Finds, finds, told-once}
@@ -32,9 +32,9 @@ pub formed-in : (s : Shape) (before : List ℕ) (l : List Profile) (p : Profile)
 formed-in s before [] p after asc = asc .0
 formed-in s before (q ∷ l) p after asc = formed-in s (q .name) l p after (asc .1 .1)
 
-module _ (seed : List ℕ) (eight : length seed ≡ seedLength) (ps : List Profile) (asc : Ascending version1 [] ps) (vs : List Variable) (once : repeated vs ≡ false) where
-  formed : (p : Profile) → Occurs p ps → WellFormed version1 p
-  formed p o = formed-in version1 [] (o .before) p (o .after) (subst (Ascending version1 []) (o .there) asc)
+module _ (seed : List ℕ) (eight : length seed ≡ seedLength) (version : ℕ) (ps : List Profile) (asc : Ascending (shapeOf version) [] ps) (vs : List Variable) (once : repeated vs ≡ false) where
+  formed : (p : Profile) → Occurs p ps → WellFormed (shapeOf version) p
+  formed p o = formed-in (shapeOf version) [] (o .before) p (o .after) (subst (Ascending (shapeOf version) []) (o .there) asc)
 
   -- a profile that is named has a name
   named-good : (user : List ℕ) (p : Profile) → Named ps vs user p → isName profileLimit user ≡ true
@@ -49,8 +49,8 @@ module _ (seed : List ℕ) (eight : length seed ≡ seedLength) (ps : List Profi
   pub one-profile : (u w : List ℕ) (p q : Profile) → Named ps vs u p → Named ps vs w q → p ≡ q
   one-profile u w p q n m =
       let same = one-user u w (n .told) (m .told) in
-      let first = lookup-is-membership version1 [] ps asc (raised u) p .1 (n .occurs, n .name) in
-      let other = lookup-is-membership version1 [] ps asc (raised u) q .1 (m .occurs, ap raised same ∙ m .name) in
+      let first = lookup-is-membership (shapeOf version) [] ps asc (raised u) p .1 (n .occurs, n .name) in
+      let other = lookup-is-membership (shapeOf version) [] ps asc (raised u) q .1 (m .occurs, ap raised same ∙ m .name) in
       cc
 
   -- what a look-up of a profile says
@@ -60,9 +60,9 @@ module _ (seed : List ℕ) (eight : length seed ≡ seedLength) (ps : List Profi
 
   looks-up : (name : List ℕ) (l : ProfileLookup) → profileNamed name ps ≡ l → LooksUp name l
   looks-up name noProfile e = λ p o n.
-      let found = lookup-is-membership version1 [] ps asc name p .1 (o, n) in
+      let found = lookup-is-membership (shapeOf version) [] ps asc name p .1 (o, n) in
       let z : _≡_ {A = ℕ} 0 1 = cc in omega arith
-  looks-up name (oneProfile p) e = lookup-is-membership version1 [] ps asc name p .0 e
+  looks-up name (oneProfile p) e = lookup-is-membership (shapeOf version) [] ps asc name p .0 e
 
   abbrev at : Lookup → Lookup → Lookup → ProfileLookup → Attempt
   at cs of us pr = record { serverSeed = seed; clientSeed = cs; offered = of; user = us; profile = pr }
@@ -77,11 +77,11 @@ module _ (seed : List ℕ) (eight : length seed ≡ seedLength) (ps : List Profi
       good : isName profileLimit u ≡ true
       good = named-good u p n
 
-      grants : BySubstitute seed u s o p ⊎ ByPassword u s o p → Granted seed ps vs
+      grants : BySubstitute p u seed s o ⊎ ByPassword p u s o → Granted seed ps vs
       grants b = record { user = u; clientSeed = s; offered = o; profile = p; seedTold = seedTold; offeredTold = offeredTold; named = n; enabled = on; by = b }
 
       -- what is granted is granted by these
-      by-these : Granted seed ps vs → BySubstitute seed u s o p ⊎ ByPassword u s o p
+      by-these : Granted seed ps vs → BySubstitute p u seed s o ⊎ ByPassword p u s o
       by-these g =
           let eu = one-user (g .user) u (g .named .told) (n .told) in
           let es = told-once USERVAR IBMRSEED vs (g .clientSeed) s once (g .seedTold) seedTold in
@@ -93,15 +93,15 @@ module _ (seed : List ℕ) (eight : length seed ≡ seedLength) (ps : List Profi
       unfolding firstOf grantConditions valueOr
       by-rules =
           let f = formed p (n .occurs) in
-          choice (Sentence seed ps vs) (clearPassword u s o p)
-          (λ t. grants (inr (clear-says p f u good s o (passes (clearPassword u s o p) t))))
-          (λ noClear. choice (Sentence seed ps vs) (isDesSubstitute seed u s o p)
-          (λ t. grants (inl (des-says p f u good s o seed eight (passes (isDesSubstitute seed u s o p) t))))
-          (λ noDes. choice (Sentence seed ps vs) (isShaSubstitute seed u s o p)
-          (λ t. grants (inl (sha-says p f u good s o seed eight (passes (isShaSubstitute seed u s o p) t))))
+          choice (Sentence seed ps vs) (isClearPassword p u seed s o)
+          (λ t. grants (inr (clear-says version p f u good seed eight s o (passes (isClearPassword p u seed s o) t))))
+          (λ noClear. choice (Sentence seed ps vs) (isDesSubstitute p u seed s o)
+          (λ t. grants (inl (des-says version p f u good seed eight s o (passes (isDesSubstitute p u seed s o) t))))
+          (λ noDes. choice (Sentence seed ps vs) (isShaSubstitute p u seed s o)
+          (λ t. grants (inl (sha-says version p f u good seed eight s o (passes (isShaSubstitute p u seed s o) t))))
           (λ noSha. fails (λ g. ⊎-elim
-          (λ b. ⊎-elim (λ d. subst T noDes d) (λ h. subst T noSha h) (substitute-said p f u good s o seed eight b))
-          (λ b. subst T noClear (clear-said p f u good s o b))
+          (λ b. ⊎-elim (λ d. subst T noDes d) (λ h. subst T noSha h) (substitute-said version p f u good seed eight s o b))
+          (λ b. subst T noClear (clear-said version p f u good seed eight s o b))
           (by-these g)))))
 
     one-is-missing : (cs of : Lookup) → Finds vs USERVAR IBMRSEED cs → Finds vs USERVAR IBMSUBSPW of
@@ -145,7 +145,7 @@ module _ (seed : List ℕ) (eight : length seed ≡ seedLength) (ps : List Profi
   sound-at (present s) of us pr f g h l = by-user (inl (f .occurs)) (present s) of f g us pr h l
 
   pub sound : Sentence seed ps vs (verdictOf (attempt seed ps vs))
-  unfolding attempt
+  unfolding attemptBy attempt
   sound =
       let us = lookup VAR USER vs in
       sound-at (lookup USERVAR IBMRSEED vs) (lookup USERVAR IBMSUBSPW vs) us (profileNamed (raised (valueOr [] us)) ps)

@@ -1,21 +1,21 @@
 -- A verdict is given exactly where its sentence holds: the theorems of `specs/Theorems.antt`. Assumes nothing.
 use mathlib.Core.Path.{_≡_, refl, sym, ap, subst, _∙_}
-use mathlib.Core.Bool.{Bool, true, false}
+use mathlib.Core.Bool.{Bool, true, false, not}
 use mathlib.Core.List.{List, []}
 use mathlib.Core.Logic.{_↔_, inl, ⊎-elim}
 use Prim.Native.Nat.{ℕ}
 use native.Mathlib.Omega.{arith}
 use lib.Dec.{T, eqb}
 use lib.ListN.{length}
-use borrow.Author.Tests.{eq-eqb, eqb-true}
+use borrow.Author.Tests.{eq-eqb, eqb-true, not-false}
 use Rattle.octets.specs.Bytes.{Bytes}
 use Rattle.octets.specs.Choice.{if_then_else_}
 use Rattle.octets.proofs.Choice.{choice}
 use Rattle.env.specs.Variable.{Variable, repeated}
 use Rattle.env.specs.Read.{Reading, says, notRead, readingOf}
 use Rattle.env.proofs.Sound.{Reads, reads}
-use Rattle.profile.specs.Profile.{version1, Profile, enabled}
-use Rattle.profile.specs.Table.{TableReading, profiles, tableRefused, tableOf}
+use Rattle.profile.specs.Profile.{shapeOf, Profile, enabled}
+use Rattle.profile.specs.Table.{TableReading, profiles, tableRefused, tableOf, versionOf, shapeIn}
 use Rattle.profile.specs.Theorems.{Ascending}
 use Rattle.profile.proofs.Backs.{tables-written-back}
 use Rattle.password_check.specs.Gives.{seedLength}
@@ -36,13 +36,13 @@ given-same : {v w : Verdict} → Given v ≡ Given w → v ≡ w
 given-same e = cc
 
 -- no two sentences hold at once
-module _ (seed : List ℕ) (eight : length seed ≡ seedLength) (ps : List Profile) (asc : Ascending version1 [] ps) (vs : List Variable) (once : repeated vs ≡ false) where
+module _ (seed : List ℕ) (eight : length seed ≡ seedLength) (version : ℕ) (ps : List Profile) (asc : Ascending (shapeOf version) [] ps) (vs : List Variable) (once : repeated vs ≡ false) where
   panel-only : Sentence seed ps vs Panel → OneTold vs → ⊥
   panel-only s t = ⊎-elim (s .0) (s .1) t
 
   off-or-on : NamedWith (λ p. enabled p ≡ false) ps vs → NamedWith (λ p. T (enabled p)) ps vs → ⊥
   off-or-on a b =
-      let same = one-profile seed eight ps asc vs once (b .user) (a .user) (b .profile) (a .profile) (b .named) (a .named) in
+      let same = one-profile seed eight version ps asc vs once (b .user) (a .user) (b .profile) (a .profile) (b .named) (a .named) in
       subst T (ap enabled same ∙ a .marked) (b .marked)
 
   granted-on : Sentence seed ps vs Grant → NamedWith (λ p. T (enabled p)) ps vs
@@ -77,20 +77,20 @@ module _ (seed : List ℕ) (eight : length seed ≡ seedLength) (ps : List Profi
 
   pub given-exactly : (v : Verdict) → (verdictOf (attempt seed ps vs) ≡ v) ↔ Sentence seed ps vs v
   given-exactly v = (
-    λ e. subst (Sentence seed ps vs) e (sound seed eight ps asc vs once),
-    λ s. only (verdictOf (attempt seed ps vs)) v (sound seed eight ps asc vs once) s,
+    λ e. subst (Sentence seed ps vs) e (sound seed eight version ps asc vs once),
+    λ s. only (verdictOf (attempt seed ps vs)) v (sound seed eight version ps asc vs once) s,
   )
 
   pub granted-all : Sentence seed ps vs Grant → InTableAndEnabled ps vs
   granted-all g = record {
     one = granted-on g;
-    every = λ user p n. subst (λ q. T (enabled q)) (one-profile seed eight ps asc vs once (g .user) user (g .profile) p (g .named) n) (g .enabled);
+    every = λ user p n. subst (λ q. T (enabled q)) (one-profile seed eight version ps asc vs once (g .user) user (g .profile) p (g .named) n) (g .enabled);
   }
 
 -- what is read of a table and a payload
 module _ (seed table payload : List ℕ) (ps : List Profile) (vs : List Variable) (bytes : Bytes table) (r : Session seed table payload ps vs) where
-  ascending : Ascending version1 [] ps
-  ascending = tables-written-back table ps bytes (r .tableRead) .1 .0
+  ascending : Ascending (shapeIn table) [] ps
+  ascending = tables-written-back table ps bytes (r .tableRead) .ascending
 
   distinct : repeated vs ≡ false
   distinct = subst Reads (r .payloadRead) (reads payload) .once
@@ -101,13 +101,13 @@ module _ (seed table payload : List ℕ) (ps : List Profile) (vs : List Variable
 
   exactly : (v : Verdict) → (answerOf seed table payload ≡ Given v) ↔ Sentence seed ps vs v
   exactly v =
-      let d = given-exactly seed (r .seedOfEight) ps ascending vs distinct v in (
+      let d = given-exactly seed (r .seedOfEight) (versionOf table) ps ascending vs distinct v in (
         λ e. let same : verdictOf (attempt seed ps vs) ≡ v = given-same (sym answered ∙ e) in d .0 same,
         λ s. answered ∙ ap Given (d .1 s),
       )
 
   granted-only : answerOf seed table payload ≡ Given Grant → InTableAndEnabled ps vs
-  granted-only e = granted-all seed (r .seedOfEight) ps ascending vs distinct (exactly Grant .0 e)
+  granted-only e = granted-all seed (r .seedOfEight) (versionOf table) ps ascending vs distinct (exactly Grant .0 e)
 
 pub verdict-is-its-sentence : VerdictIsItsSentence
 verdict-is-its-sentence seed table payload ps vs bytes r v = exactly seed table payload ps vs bytes r v
@@ -127,6 +127,6 @@ readable-by seed table payload v (profiles ps) (says first vs) eight et eq e =
 pub no-verdict-if-refused : NoVerdictIfRefused
 unfolding answerOf
 no-verdict-if-refused seed table payload v =
-    choice (λ a. a ≡ Given v → Readable seed table payload) (eqb (length seed) seedLength)
-    (λ t e. readable-by seed table payload v (tableOf table) (readingOf payload) (eqb-true (length seed) seedLength t) refl refl e)
+    choice (λ a. a ≡ Given v → Readable seed table payload) (not (eqb (length seed) seedLength))
     (λ _ e. refused-given e)
+    (λ t e. readable-by seed table payload v (tableOf table) (readingOf payload) (eqb-true (length seed) seedLength (not-false _ t)) refl refl e)

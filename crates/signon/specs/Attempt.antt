@@ -1,7 +1,7 @@
 -- A sign-on as it is found: what the client's variables say (RFC 4777, section 5), and the profile of the user.
 use Prim.Native.Nat.{ℕ}
 use mathlib.Core.Bool.{Bool, true, false, not, _&&_, _||_}
-use mathlib.Core.List.{List, []}
+use mathlib.Core.List.{List, [], _∷_}
 use lib.ListN.{replicate}
 use Rattle.octets.specs.Ascii.{ascii}
 use Rattle.octets.specs.Same.{same}
@@ -30,15 +30,19 @@ pub record Attempt : Type 0 where
   -- the profile of the user's name, raised
   pub profile : ProfileLookup
 
--- the attempt under a server seed, by the profiles of a table and the variables of a payload
-unfoldable pub attempt : List ℕ → List Profile → List Variable → Attempt
-attempt seed ps vs = record {
+-- the attempt under a server seed, by the variables of a payload and what a look-up of the profile found
+unfoldable pub attemptBy : (serverSeed : List ℕ) → List Variable → ProfileLookup → Attempt
+attemptBy seed vs found = record {
   serverSeed = seed;
   clientSeed = lookup USERVAR IBMRSEED vs;
   offered = lookup USERVAR IBMSUBSPW vs;
   user = lookup VAR USER vs;
-  profile = profileNamed (raised (valueOr [] (lookup VAR USER vs))) ps;
+  profile = found;
 }
+
+-- and with the profile of the user's name, raised, among those of a table
+unfoldable pub attempt : (serverSeed : List ℕ) → List Profile → List Variable → Attempt
+attempt seed ps vs = attemptBy seed vs (profileNamed (raised (valueOr [] (lookup VAR USER vs))) ps)
 
 -- whether a variable is there
 abbrev pub isPresent : Lookup → Bool
@@ -51,22 +55,32 @@ ofProfile test noProfile = false
 ofProfile test (oneProfile p) = test p
 
 -- "Seed empty or eight zeros"
-unfoldable pub isClear : List ℕ → Bool
-isClear seed = same seed [] || same seed (replicate 8 0)
+unfoldable pub isClear : (clientSeed : List ℕ) → Bool
+isClear clientSeed = same clientSeed [] || same clientSeed (replicate 8 0)
+
+-- a rule on what is offered for a profile, under two seeds
+abbrev pub GrantRule : Type 0
+GrantRule = Profile → (name serverSeed clientSeed offered : List ℕ) → Bool
 
 -- "the value is a clear password whose SHA-1 token is stored"
-unfoldable pub clearPassword : List ℕ → List ℕ → List ℕ → Profile → Bool
-clearPassword user seed value p = isClear seed && givesClear user value (storedSha p)
+unfoldable pub isClearPassword : Profile → (name serverSeed clientSeed offered : List ℕ) → Bool
+isClearPassword p name serverSeed clientSeed offered = isClear clientSeed && givesClear (storedSha p) name offered
 
 -- "Seed of 8 other bytes: an 8-byte value is the DES substitute and DES is allowed,
-unfoldable pub isDesSubstitute : List ℕ → List ℕ → List ℕ → List ℕ → Profile → Bool
-isDesSubstitute serverSeed user seed value p = not (isClear seed) && (desAllowed p && givesDes (storedDes p) user serverSeed seed value)
+unfoldable pub isDesSubstitute : Profile → (name serverSeed clientSeed offered : List ℕ) → Bool
+isDesSubstitute p name serverSeed clientSeed offered =
+    not (isClear clientSeed) && (desAllowed p && givesDes (storedDes p) name serverSeed clientSeed offered)
 
 -- or a 20-byte value is the SHA-1 substitute."
-unfoldable pub isShaSubstitute : List ℕ → List ℕ → List ℕ → List ℕ → Profile → Bool
-isShaSubstitute serverSeed user seed value p = not (isClear seed) && givesSha (storedSha p) user serverSeed seed value
+unfoldable pub isShaSubstitute : Profile → (name serverSeed clientSeed offered : List ℕ) → Bool
+isShaSubstitute p name serverSeed clientSeed offered = not (isClear clientSeed) && givesSha (storedSha p) name serverSeed clientSeed offered
 
--- one of the two rules holds
-unfoldable pub isProved : List ℕ → List ℕ → List ℕ → List ℕ → Profile → Bool
-isProved serverSeed user seed value p =
-    clearPassword user seed value p || (isDesSubstitute serverSeed user seed value p || isShaSubstitute serverSeed user seed value p)
+-- the rules by which a sign-on is granted
+abbrev pub grantRules : List GrantRule
+grantRules = isClearPassword ∷ isDesSubstitute ∷ isShaSubstitute ∷ []
+
+-- one of some rules holds
+unfoldable pub oneHolds : List GrantRule → Profile → (name serverSeed clientSeed offered : List ℕ) → Bool
+oneHolds [] p name serverSeed clientSeed offered = false
+oneHolds (rule ∷ rules) p name serverSeed clientSeed offered =
+    rule p name serverSeed clientSeed offered || oneHolds rules p name serverSeed clientSeed offered

@@ -30,7 +30,7 @@ pub record Told (vs : List Variable) (kind : ℕ) (name value : List ℕ) : Type
   pub says : occurs .it .value ≡ value
 
 -- none of a kind and name
-abbrev pub Untold : List Variable → ℕ → List ℕ → Type 0
+abbrev pub Untold : List Variable → (kind : ℕ) (name : List ℕ) → Type 0
 Untold vs kind name = Env.Occurs kind name vs → ⊥
 
 -- "the named profile": one of the table's, whose name is the value of VAR USER, raised
@@ -44,16 +44,17 @@ abbrev pub zeroSeed : List ℕ
 zeroSeed = replicate seedLength 0
 
 -- "its token, of a kind it allows, gives the offered substitute under this session's two seeds, the client's not zero"
-pub record BySubstitute (serverSeed user clientSeed offered : List ℕ) (p : Profile) : Type 0 where
+pub record BySubstitute (p : Profile) (name serverSeed clientSeed offered : List ℕ) : Type 0 where
   pub seed : length clientSeed ≡ seedLength
   pub notZero : clientSeed ≡ zeroSeed → ⊥
-  pub gives : (T (desAllowed p) × (offered ≡ desSubstituteOf (storedDes p) user serverSeed clientSeed)) ⊎ (offered ≡ PW-SUB (storedSha p) serverSeed clientSeed user)
+  pub gives : (T (desAllowed p) × (offered ≡ desSubstituteOf (storedDes p) name serverSeed clientSeed))
+      ⊎ (offered ≡ PW-SUB (storedSha p) serverSeed clientSeed name)
 
 -- "with that seed empty or zero, a clear password gives its stored token"
-pub record ByPassword (user clientSeed offered : List ℕ) (p : Profile) : Type 0 where
+pub record ByPassword (p : Profile) (name clientSeed offered : List ℕ) : Type 0 where
   pub seed : (clientSeed ≡ []) ⊎ (clientSeed ≡ zeroSeed)
   pub password : T (isPassword offered)
-  pub gives : PW-token user offered ≡ storedSha p
+  pub gives : PW-token name offered ≡ storedSha p
 
 -- "Sign-on is granted exactly when the named profile is enabled and either its token .. or .. a clear password .."
 pub record Granted (serverSeed : List ℕ) (ps : List Profile) (vs : List Variable) : Type 0 where
@@ -65,7 +66,7 @@ pub record Granted (serverSeed : List ℕ) (ps : List Profile) (vs : List Variab
   pub offeredTold : Told vs USERVAR IBMSUBSPW offered
   pub named : Named ps vs user profile
   pub enabled : T (Profiles.enabled profile)
-  pub by : BySubstitute serverSeed user clientSeed offered profile ⊎ ByPassword user clientSeed offered profile
+  pub by : BySubstitute profile user serverSeed clientSeed offered ⊎ ByPassword profile user clientSeed offered
 
 -- one of the two USERVARs is there
 abbrev pub OneTold : List Variable → Type 0

@@ -1,7 +1,7 @@
 -- The verdict (specification, "Verdict, first that holds"), and the order of refusals: 35, 30 to 32, 3, 20 to 25.
 use Prim.Native.Nat.{ℕ}
 use mathlib.Core.Bool.{Bool, true, not, _&&_}
-use mathlib.Core.List.{List, [], _∷_}
+use mathlib.Core.List.{List, [], _∷_, map}
 use lib.Dec.{eqb}
 use lib.ListN.{length}
 use Rattle.octets.specs.Choice.{if_then_else_}
@@ -16,7 +16,7 @@ use Rattle.signon.specs.declared.Verdict.{Verdict}
 use Rattle.signon.specs.declared.Verdict.the-variants.{Panel, NotKnown, Disabled, Failed, Grant}
 use Rattle.signon.specs.declared.Answer.{Answer}
 use Rattle.signon.specs.declared.Answer.the-variants.{Given, Refused}
-use Rattle.signon.specs.Attempt.{Attempt, attempt, isPresent, ofProfile, clearPassword, isDesSubstitute, isShaSubstitute}
+use Rattle.signon.specs.Attempt.{Attempt, attempt, isPresent, ofProfile, GrantRule, grantRules}
 
 -- a condition and its verdict
 pub record Rule : Type 0 where
@@ -32,19 +32,15 @@ unfoldable pub firstOf : List Rule → Verdict → Verdict
 firstOf [] other = other
 firstOf (r ∷ rs) other = if r .holds then r .verdict else firstOf rs other
 
--- a condition on what both USERVARs say and the profile; where one is not there it does not hold
-abbrev pub proves : (List ℕ → List ℕ → List ℕ → Profile → Bool) → Attempt → Bool
-proves rule a =
+-- a rule holds for what both USERVARs say and the profile; where one of them is not there it does not
+abbrev pub authenticates : Attempt → GrantRule → Bool
+authenticates a rule =
     isPresent (a .clientSeed) && isPresent (a .offered)
-    && ofProfile (rule (valueOr [] (a .user)) (valueOr [] (a .clientSeed)) (valueOr [] (a .offered))) (a .profile)
+    && ofProfile (λ p. rule p (valueOr [] (a .user)) (a .serverSeed) (valueOr [] (a .clientSeed)) (valueOr [] (a .offered))) (a .profile)
 
 -- "GRANT, if both USERVARs are present and a rule below holds"
 unfoldable pub grantConditions : Attempt → List Rule
-grantConditions a =
-    (proves clearPassword a gives Grant)
-    ∷ (proves (isDesSubstitute (a .serverSeed)) a gives Grant)
-    ∷ (proves (isShaSubstitute (a .serverSeed)) a gives Grant)
-    ∷ []
+grantConditions a = map (λ rule. authenticates a rule gives Grant) grantRules
 
 -- "0002, if VAR USER is absent, no valid name, or not in the table; 0003, not enabled;"
 unfoldable pub profileConditions : Attempt → List Rule
@@ -64,12 +60,12 @@ unfoldable pub verdictOf : Attempt → Verdict
 verdictOf a = firstOf (conditions a) Failed
 
 -- an answer by what the table and the payload say
-unfoldable pub answerBy : List ℕ → TableReading → Reading → Answer
+unfoldable pub answerBy : (serverSeed : List ℕ) → TableReading → Reading → Answer
 answerBy seed (tableRefused n) reading = Refused n
 answerBy seed (profiles ps) (notRead n) = Refused n
 answerBy seed (profiles ps) (says first vs) = Given (verdictOf (attempt seed ps vs))
 
 -- the answer to a server seed, a table and a payload
-unfoldable pub answerOf : List ℕ → List ℕ → List ℕ → Answer
+unfoldable pub answerOf : (serverSeed table payload : List ℕ) → Answer
 answerOf seed table payload =
-    if eqb (length seed) seedLength then answerBy seed (tableOf table) (readingOf payload) else Refused badServerSeed
+    if not (eqb (length seed) seedLength) then Refused badServerSeed else answerBy seed (tableOf table) (readingOf payload)

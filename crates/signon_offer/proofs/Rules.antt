@@ -10,7 +10,7 @@ use Rattle.octets.specs.Same.{same}
 use Rattle.octets.proofs.Equality.{same-differ}
 use Rattle.profile.specs.Profile.{Profile, desAllowed, storedDes, storedSha}
 use Rattle.password_check.specs.Gives.{givesClear, givesDes, givesSha}
-use Rattle.signon.specs.Attempt.{isClear, clearPassword, isDesSubstitute, isShaSubstitute, isProved}
+use Rattle.signon.specs.Attempt.{isClear, isClearPassword, isDesSubstitute, isShaSubstitute, grantRules, oneHolds}
 
 -- clear seeds
 pub empty-clear : (seed : List ℕ) → length seed ≡ 0 → isClear seed ≡ true
@@ -22,15 +22,16 @@ pub zeros-clear : (seed : List ℕ) → 0 < length seed → isClear seed ≡ sam
 unfolding isClear
 zeros-clear seed h = rw (same-differ seed [] (λ e. omega arith))
 
-or-none : (b : Bool) → (b || (false || false)) ≡ b
-or-none true = refl
-or-none false = refl
+or-false : (b : Bool) → (b || false) ≡ b
+or-false true = refl
+or-false false = refl
 
--- what is proved, by the outcomes of the first two tests
-pub proved-by : (s user seed offered : List ℕ) (p : Profile) (clear des : Bool)
-    → isClear seed ≡ clear → (desAllowed p && givesDes (storedDes p) user s seed offered) ≡ des
-    → (if clear then givesClear user offered (storedSha p) else if des then true else givesSha (storedSha p) user s seed offered) ≡ isProved s user seed offered p
-unfolding isProved clearPassword isDesSubstitute isShaSubstitute
-proved-by s user seed offered p true des c d = rw (c, or-none (givesClear user offered (storedSha p)))
-proved-by s user seed offered p false true c d = rw (c, d)
-proved-by s user seed offered p false false c d = rw (c, d)
+-- one of the rules holds, by the outcomes of the first two tests
+pub by-tests : (p : Profile) (name server client offered : List ℕ) (clear des : Bool)
+    → isClear client ≡ clear → (desAllowed p && givesDes (storedDes p) name server client offered) ≡ des
+    → (if clear then givesClear (storedSha p) name offered else if des then true else givesSha (storedSha p) name server client offered)
+    ≡ oneHolds grantRules p name server client offered
+unfolding oneHolds isClearPassword isDesSubstitute isShaSubstitute
+by-tests p name server client offered true des c d = rw (c, or-false (givesClear (storedSha p) name offered))
+by-tests p name server client offered false true c d = rw (c, d)
+by-tests p name server client offered false false c d = rw (c, d, or-false (givesSha (storedSha p) name server client offered))

@@ -1,7 +1,7 @@
--- The code's order of decisions is the definition's. Assumes nothing.
+-- What each test of the code says of the verdict. Assumes nothing.
 use mathlib.Core.Path.{_≡_, refl, sym, ap, subst, _∙_}
 use mathlib.Core.Bool.{Bool, true, false, not, _&&_, _||_}
-use mathlib.Core.List.{List, []}
+use mathlib.Core.List.{List, [], _∷_, map}
 use Prim.Native.Nat.{ℕ}
 use native.Mathlib.Omega.{arith}
 use lib.Dec.{T}
@@ -17,8 +17,8 @@ use Rattle.env_records.specs.Theorems.{valueAt}
 use Rattle.env_records.proofs.Found.{finds-the-value}
 use Rattle.names.specs.Name.{raised, isName, isRaisedName, profileLimit}
 use Rattle.names.proofs.Held.{raised-is-raised}
-use Rattle.profile.specs.Profile.{version1, Profile, enabled}
-use Rattle.profile.specs.Table.{TableReading, profiles, tableRefused, tableOf}
+use Rattle.profile.specs.Profile.{Profile, enabled}
+use Rattle.profile.specs.Table.{TableReading, profiles, tableRefused, tableOf, shapeIn, profileIn}
 use Rattle.profile.specs.Lookup.{ProfileLookup, noProfile, oneProfile, profileNamed}
 use Rattle.profile.specs.Theorems.{Ascending}
 use Rattle.profile.proofs.Backs.{tables-written-back}
@@ -28,40 +28,33 @@ use Rattle.profile_table.specs.declared.TableCheck.the-variants.{Profiles, Refu
 use Rattle.profile_table.specs.declared.Found.{Found}
 use Rattle.profile_table.specs.declared.Found.the-variants.{Present, Absent, Refused as NotFound}
 use Rattle.profile_table.specs.Answer.{checked, foundIn}
-use Rattle.profile_table.specs.Theorems.{standing, Tells}
+use Rattle.profile_table.specs.Theorems.{Tells}
 use Rattle.profile_table.proofs.Meaning.{found-is-named}
+use Rattle.signon.specs.declared.Verdict.{Verdict}
 use Rattle.signon.specs.declared.Verdict.the-variants.{Panel, NotKnown, Disabled, Failed, Grant}
 use Rattle.signon.specs.declared.Answer.the-variants.{Given, Refused}
-use Rattle.signon.specs.Attempt.{USER, IBMRSEED, IBMSUBSPW, Attempt, attempt, isPresent, clearPassword, isDesSubstitute, isShaSubstitute, isProved}
-use Rattle.signon.specs.Verdict.{firstOf, grantConditions, profileConditions, conditions, verdictOf, answerBy}
+use Rattle.signon.specs.Attempt.{USER, IBMRSEED, IBMSUBSPW, Attempt, attemptBy, attempt, isPresent, GrantRule, grantRules, oneHolds}
+use Rattle.signon.specs.Verdict.{_gives_, firstOf, grantConditions, profileConditions, conditions, verdictOf, answerBy}
 use Rattle.signon.proofs.Sentences.{formed-in}
-use Rattle.signon_verdict.specs.internal.Decisions.{userOf, seedOf, offeredOf, isPanel, unknownVerdict, knownVerdict}
+use Rattle.signon_verdict.specs.internal.Decisions.{userOf, seedOf, offeredOf, seedGiven, offerGiven, isPanel, IsEntry}
 
 -- whether a variable is there, by the place of its value
 pub there-by : (kind : ℕ) (name bytes numbers : List ℕ) (p q : ValuePlace) → p ≡ placeOf kind name bytes numbers → p ≡ q
     → isPresent (valueAt bytes q) ≡ isPresent (lookup kind name (variablesHeld bytes numbers))
 there-by kind name bytes numbers p q e told = ap isPresent (ap (valueAt bytes) (sym told ∙ e) ∙ finds-the-value kind name bytes numbers)
 
--- three conditions for GRANT that ask for both USERVARs
-granted-once : (a b x y z : Bool)
-    → (if a && b && x then Grant else if a && b && y then Grant else if a && b && z then Grant else Failed)
-    ≡ (if not a then Failed else if not b then Failed else if x || (y || z) then Grant else Failed)
-granted-once false b x y z = refl
-granted-once true false x y z = refl
-granted-once true true true y z = refl
-granted-once true true false true z = refl
-granted-once true true false false true = refl
-granted-once true true false false false = refl
+-- the conditions for GRANT give it where one of the rules holds
+one-more : (b t : Bool) (v : Verdict) → v ≡ (if t then Grant else Failed) → (if b then Grant else v) ≡ (if b || t then Grant else Failed)
+one-more true t v e = refl
+one-more false t v e = e
 
--- an attempt with the variables of a payload
-abbrev attemptWith : List ℕ → List Variable → ProfileLookup → Attempt
-attemptWith seed vs l = record {
-  serverSeed = seed;
-  clientSeed = lookup USERVAR IBMRSEED vs;
-  offered = lookup USERVAR IBMSUBSPW vs;
-  user = lookup VAR USER vs;
-  profile = l;
-}
+granted : (rules : List GrantRule) (p : Profile) (name server client offered : List ℕ)
+    → firstOf (map (λ rule. rule p name server client offered gives Grant) rules) Failed
+    ≡ (if oneHolds rules p name server client offered then Grant else Failed)
+unfolding firstOf oneHolds
+granted [] p name server client offered = refl
+granted (rule ∷ rules) p name server client offered =
+    one-more (rule p name server client offered) (oneHolds rules p name server client offered) _ (granted rules p name server client offered)
 
 -- three conditions that all say 0002
 not-known : (a b : Bool) → (if a then NotKnown else if b then NotKnown else NotKnown) ≡ NotKnown
@@ -69,20 +62,35 @@ not-known true b = refl
 not-known false true = refl
 not-known false false = refl
 
-pub unknown : (seed : List ℕ) (vs : List Variable) → verdictOf (attemptWith seed vs noProfile) ≡ unknownVerdict vs
-unfolding verdictOf conditions profileConditions firstOf unknownVerdict
-unknown seed vs = ap (λ v. if isPanel vs then Panel else v) (not-known (not (isPresent (lookup VAR USER vs))) (not (isName profileLimit (userOf vs))))
+-- the verdict, condition by condition
+module _ (seed : List ℕ) (vs : List Variable) where
+  pub asks-panel : (found : ProfileLookup) → isPanel vs ≡ true → verdictOf (attemptBy seed vs found) ≡ Panel
+  unfolding verdictOf attemptBy conditions firstOf
+  asks-panel found e = rw e
 
-pub known : (seed : List ℕ) (vs : List Variable) (p : Profile) → isPresent (lookup VAR USER vs) ≡ true → isName profileLimit (userOf vs) ≡ true
-    → verdictOf (attemptWith seed vs (oneProfile p)) ≡ knownVerdict seed vs p
-unfolding verdictOf conditions profileConditions grantConditions firstOf knownVerdict isProved
-known seed vs p there good =
-    let u = userOf vs in
-    let s = seedOf vs in
-    let o = offeredOf vs in
-    rw (there, good)
-    (ap (λ v. if isPanel vs then Panel else if not (enabled p) then Disabled else v)
-    (granted-once (isPresent (lookup USERVAR IBMRSEED vs)) (isPresent (lookup USERVAR IBMSUBSPW vs)) (clearPassword u s o p) (isDesSubstitute seed u s o p) (isShaSubstitute seed u s o p)))
+  pub unknown : isPanel vs ≡ false → verdictOf (attemptBy seed vs noProfile) ≡ NotKnown
+  unfolding verdictOf attemptBy conditions profileConditions firstOf
+  unknown e = rw e (not-known (not (isPresent (lookup VAR USER vs))) (not (isName profileLimit (userOf vs))))
+
+  module _ (p : Profile) (there : isPresent (lookup VAR USER vs) ≡ true) (good : isName profileLimit (userOf vs) ≡ true) (other : isPanel vs ≡ false) where
+    pub disabled : enabled p ≡ false → verdictOf (attemptBy seed vs (oneProfile p)) ≡ Disabled
+    unfolding verdictOf attemptBy conditions profileConditions firstOf
+    disabled off = rw (other, there, good, off)
+
+    module _ (on : enabled p ≡ true) where
+      pub no-seed : seedGiven vs ≡ false → verdictOf (attemptBy seed vs (oneProfile p)) ≡ Failed
+      unfolding verdictOf attemptBy conditions profileConditions grantConditions firstOf
+      no-seed e = rw (other, there, good, on, e)
+
+      pub no-offer : seedGiven vs ≡ true → offerGiven vs ≡ false → verdictOf (attemptBy seed vs (oneProfile p)) ≡ Failed
+      unfolding verdictOf attemptBy conditions profileConditions grantConditions firstOf
+      no-offer s e = rw (other, there, good, on, s, e)
+
+      pub by-rules : seedGiven vs ≡ true → offerGiven vs ≡ true
+          → verdictOf (attemptBy seed vs (oneProfile p))
+          ≡ (if oneHolds grantRules p (userOf vs) seed (seedOf vs) (offeredOf vs) then Grant else Failed)
+      unfolding verdictOf attemptBy conditions profileConditions grantConditions firstOf
+      by-rules s o = rw (other, there, good, on, s, o) (granted grantRules p (userOf vs) seed (seedOf vs) (offeredOf vs))
 
 -- a user whose profile was found is there, and is a name
 user-good : (l : Lookup) → isRaisedName profileLimit (raised (valueOr [] l)) ≡ true → (isPresent l ≡ true) × (isName profileLimit (valueOr [] l) ≡ true)
@@ -92,9 +100,9 @@ user-good (present u) e = (refl, sym (raised-is-raised profileLimit u) ∙ e)
 
 -- what an answer must be, by what the look-up in the table answers
 abbrev pub Decides : List ℕ → List ℕ → List Variable → Found → Type 0
-Decides seed table vs Absent = Given (unknownVerdict vs) ≡ answerBy seed (tableOf table) (says 0 vs)
+Decides seed table vs Absent = Given (verdictOf (attemptBy seed vs noProfile)) ≡ answerBy seed (tableOf table) (says 0 vs)
 Decides seed table vs (Present e) =
-    (Given (knownVerdict seed vs (standing table (e .at))) ≡ answerBy seed (tableOf table) (says 0 vs)) × (e .enabled ≡ enabled (standing table (e .at)))
+    (Given (verdictOf (attemptBy seed vs (oneProfile (profileIn table (e .at))))) ≡ answerBy seed (tableOf table) (says 0 vs)) × IsEntry table vs e
 Decides seed table vs (NotFound n) = Refused n ≡ answerBy seed (tableOf table) (says 0 vs)
 
 module _ (seed table : List ℕ) (vs : List Variable) (bytes : Bytes table) where
@@ -103,21 +111,22 @@ module _ (seed table : List ℕ) (vs : List Variable) (bytes : Bytes table) wher
 
   -- the table reads as profiles
   module _ (ps : List Profile) (e : tableOf table ≡ profiles ps) where
-    given : (l : ProfileLookup) → profileNamed name ps ≡ l → Given (verdictOf (attemptWith seed vs l)) ≡ answerBy seed (tableOf table) (says 0 vs)
+    given : (l : ProfileLookup) → profileNamed name ps ≡ l → Given (verdictOf (attemptBy seed vs l)) ≡ answerBy seed (tableOf table) (says 0 vs)
     unfolding answerBy attempt
     given l f = rw (e, ← f)
 
     decides-read : (f : Found) → Tells table (profileNamed name ps) f → Decides seed table vs f
-    decides-read Absent t = rw (← unknown seed vs) (given noProfile t)
+    decides-read Absent t = given noProfile t
     decides-read (Present d) t =
-        let p = standing table (d .at) in
-        let asc = tables-written-back table ps bytes e .1 .0 in
-        let m = lookup-is-membership version1 [] ps asc name p .0 (t .0) in
-        let formed = formed-in version1 [] (m .0 .before) p (m .0 .after) (subst (Ascending version1 []) (m .0 .there) asc) in
+        let p = profileIn table (d .at) in
+        let s = shapeIn table in
+        let asc = tables-written-back table ps bytes e .ascending in
+        let m = lookup-is-membership s [] ps asc name p .0 (t .0) in
+        let formed = formed-in s [] (m .0 .before) p (m .0 .after) (subst (Ascending s []) (m .0 .there) asc) in
         let raisedName : isRaisedName profileLimit name ≡ true =
         is-true (isRaisedName profileLimit name) (subst (λ l. T (isRaisedName profileLimit l)) (sym (m .1)) (formed .name)) in
         let u = user-good (lookup VAR USER vs) raisedName in
-        (rw (← known seed vs p (u .0) (u .1)) (given (oneProfile p) (t .0)), ap (λ k. k .enabled) (t .1))
+        (given (oneProfile p) (t .0), record { user = u .0; name = u .1; enabled = ap (λ k. k .enabled) (t .1) })
     decides-read (NotFound n) t = absurd t
 
   decides-by : (r : TableReading) → tableOf table ≡ r → Decides seed table vs (foundIn name (tableOf table))

@@ -4,16 +4,14 @@
 ghost use mathlib.Core.Path.{_≡_};
 ghost use mathlib.Core.List.{List};
 ghost use Prim.Native.Nat.{ℕ};
-ghost use lib.ListN.{drop};
 ghost use Rattle.env.specs.Variable.{lookup};
 ghost use Rattle.env.specs.Numbers.{variablesHeld};
 ghost use Rattle.env.specs.Read.{says, notRead};
-ghost use Rattle.profile.specs.Profile.{version1, enabled};
-ghost use Rattle.profile.specs.Table.{profileAt, tableOf};
-ghost use Rattle.signon.specs.Attempt.{isPresent};
-ghost use Rattle.signon.specs.Verdict.{answerBy, answerOf};
-ghost use Rattle.signon_verdict.specs.internal.Decisions.{userOf, seedOf, offeredOf, seedGiven, offerGiven, isPanel};
-ghost use Rattle.signon_verdict.specs.internal.Decisions.{unknownVerdict, knownVerdict};
+ghost use Rattle.profile.specs.Table.{tableOf, profileIn};
+ghost use Rattle.profile.specs.Lookup.{noProfile, oneProfile};
+ghost use Rattle.signon.specs.Attempt.{attemptBy, isPresent};
+ghost use Rattle.signon.specs.Verdict.{verdictOf, answerBy, answerOf};
+ghost use Rattle.signon_verdict.specs.internal.Decisions.{userOf, seedOf, offeredOf, seedGiven, offerGiven, isPanel, IsEntry};
 use env::LIST_LIMIT;
 use env::PAYLOAD_LIMIT;
 use env::RECORD_WIDTH;
@@ -78,7 +76,7 @@ fn is_panel(bytes: &[u8], numbers: &[usize]) -> bool
 
 // The verdict where no profile was found.
 fn without_profile(bytes: &[u8], numbers: &[usize]) -> Verdict
-    ensures { λ r. ⌜ r ≡ unknownVerdict (variablesHeld (now (bytes .entry)) (now (numbers .entry))) ⌝ }
+    ensures { λ r. ⌜ ((seed : List ℕ) → r ≡ verdictOf (attemptBy seed (variablesHeld (now (bytes .entry)) (now (numbers .entry))) noProfile)) ⌝ }
 {
     if is_panel(bytes, numbers) {
         return Verdict::Panel;
@@ -94,9 +92,9 @@ fn with_profile(
     bytes: &[u8],
     numbers: &[usize],
 ) -> Verdict
-    requires { ⌜ e .enabled ≡ enabled (profileAt version1 (drop (e .at) (now table))) ⌝ }
+    requires { ⌜ IsEntry (now table) (variablesHeld (now bytes) (now numbers)) e ⌝ }
     ensures { λ r. ⌜
-        r ≡ knownVerdict (now («server_seed» .entry)) (variablesHeld (now (bytes .entry)) (now (numbers .entry))) (profileAt version1 (drop (e .at) (now (table .entry))))
+        r ≡ verdictOf (attemptBy (now («server_seed» .entry)) (variablesHeld (now (bytes .entry)) (now (numbers .entry))) (oneProfile (profileIn (now (table .entry)) (e .at))))
         ⌝ }
 {
     if is_panel(bytes, numbers) {
@@ -111,10 +109,10 @@ fn with_profile(
     if !offer_given(bytes, numbers) {
         return Verdict::Failed;
     }
-    let user = user_of(bytes, numbers);
-    let seed = seed_of(bytes, numbers);
+    let name = user_of(bytes, numbers);
+    let client_seed = seed_of(bytes, numbers);
     let offered = offered_of(bytes, numbers);
-    if signon_offer::is_proved(server_seed, table, e.at, user, seed, offered) {
+    if signon_offer::authenticates(table, e.at, name, server_seed, client_seed, offered) {
         return Verdict::Grant;
     }
     Verdict::Failed

@@ -13,10 +13,10 @@ sha-token-requires c κs = search needs
 -- what the answered hash gives is what is asked for
 answered : (c : tie.After-sha-token)
     → let s = c .before .before .before .before .args in
-    hashGives (c .sha-token .result) (s .stored .now) ≡ givesClear (s .name .now) (s .password .now) (s .stored .now)
+    hashGives (c .sha-token .result) (s .token .now) ≡ givesClear (s .token .now) (s .name .now) (s .offered .now)
 answered c =
     let s = c .before .before .before .before .args in
-    ap (λ h. hashGives h (s .stored .now)) (c .sha-token .ensures) ∙ clear-given (s .name .now) (s .password .now) (s .stored .now)
+    ap (λ h. hashGives h (s .token .now)) (c .sha-token .ensures) ∙ clear-given (s .token .now) (s .name .now) (s .offered .now)
 
 returns : tie.Need-returns
 returns c =

@@ -11,7 +11,7 @@ returns : tie.Need-returns
 unfolding givesDes
 returns c =
     let s = c .before .before .before .before .before .before .args in
-    other-length desLength (s .stored .now) (s .server-seed .now) (s .client-seed .now) _ (omega arith)
+    other-length desLength (s .token .now) (s .server-seed .now) (s .client-seed .now) _ (omega arith)
 
 are-seeds-requires : tie.Need-are-seeds-requires
 are-seeds-requires c κs = search needs
@@ -21,7 +21,7 @@ unfolding givesDes
 returns-2 c =
     let p = c .before in
     let s = p .before .before .before .before .before .before .before .args in
-    other-seeds desLength (s .stored .now) (s .server-seed .now) (s .client-seed .now) _
+    other-seeds desLength (s .token .now) (s .server-seed .now) (s .client-seed .now) _
     (p .are-seeds .result) (p .are-seeds .ensures) (c .if2 .taken)
 
 word-64-requires : tie.Need-word-64-requires
@@ -40,7 +40,7 @@ des-substitute-requires c κs = search needs
 answered : (c : tie.After-des-substitute)
     → let a = c .before .before .before .before .before .before .before .before .before .before .before .before .args in
     blockGives (c .des-substitute .result) (a .offered .now)
-    ≡ givesDes (a .stored .now) (a .name .now) (a .server-seed .now) (a .client-seed .now) (a .offered .now)
+    ≡ givesDes (a .token .now) (a .name .now) (a .server-seed .now) (a .client-seed .now) (a .offered .now)
 answered c =
     let k = c .before in
     let s = k .before in
@@ -49,7 +49,7 @@ answered c =
     let a = p .before .before .before .before .before .before .before .args in
     ap (λ x. blockGives x (a .offered .now)) (c .des-substitute .ensures)
     ∙ rw (t .word-64 .ensures, s .word-642 .ensures, k .word-643 .ensures)
-    (des-given (a .stored .now) (a .name .now) (a .server-seed .now) (a .client-seed .now) (a .offered .now)
+    (des-given (a .token .now) (a .name .now) (a .server-seed .now) (a .client-seed .now) (a .offered .now)
     (p .are-seeds .result) (p .are-seeds .ensures) (t .before .if2 .left) (omega arith))
 
 enum-told : tie.Need-enum-told

@@ -13,7 +13,7 @@ returns : tie.Need-returns
 unfolding givesSha
 returns c =
     let s = c .before .before .before .before .before .before .args in
-    other-length shaLength (s .stored .now) (s .server-seed .now) (s .client-seed .now) _ (omega arith)
+    other-length shaLength (s .token .now) (s .server-seed .now) (s .client-seed .now) _ (omega arith)
 
 are-seeds-requires : tie.Need-are-seeds-requires
 are-seeds-requires c κs = search needs
@@ -23,7 +23,7 @@ unfolding givesSha
 returns-2 c =
     let p = c .before in
     let s = p .before .before .before .before .before .before .before .args in
-    other-seeds shaLength (s .stored .now) (s .server-seed .now) (s .client-seed .now) _
+    other-seeds shaLength (s .token .now) (s .server-seed .now) (s .client-seed .now) _
     (p .are-seeds .result) (p .are-seeds .ensures) (c .if2 .taken)
 
 slice-aggregate-put : tie.Need-slice-aggregate-put
@@ -45,7 +45,7 @@ sha-substitute-requires c κs = search needs
 answered : (c : tie.After-sha-substitute)
     → let a = c .before .before .before .before .before .before .before .before .before .before .before .before .before .before .args in
     hashGives (c .sha-substitute .result) (a .offered .now)
-    ≡ givesSha (a .stored .now) (a .name .now) (a .server-seed .now) (a .client-seed .now) (a .offered .now)
+    ≡ givesSha (a .token .now) (a .name .now) (a .server-seed .now) (a .client-seed .now) (a .offered .now)
 answered c =
     let k = c .before in
     let s = k .before in
@@ -54,11 +54,11 @@ answered c =
     let p = f .before in
     let known = p .before .before in
     let a = known .before .before .before .before .before .args in
-    let token : t .put .last .1 .0 ≡ a .stored .now =
-    ap (λ o. o .lent) (t .put .ensures ∙ put-filling (a .stored .now) (replicate 20 0) (omega arith)) in
+    let filled : t .put .last .1 .0 ≡ a .token .now =
+    ap (λ o. o .lent) (t .put .ensures ∙ put-filling (a .token .now) (replicate 20 0) (omega arith)) in
     ap (λ x. hashGives x (a .offered .now)) (c .sha-substitute .ensures)
-    ∙ rw (token, s .word-64 .ensures, k .word-642 .ensures)
-    (sha-given (a .stored .now) (a .name .now) (a .server-seed .now) (a .client-seed .now) (a .offered .now)
+    ∙ rw (filled, s .word-64 .ensures, k .word-642 .ensures)
+    (sha-given (a .token .now) (a .name .now) (a .server-seed .now) (a .client-seed .now) (a .offered .now)
     (p .are-seeds .result) (p .are-seeds .ensures) (f .if2 .left) (omega arith)
     (λ i. known .before .before .shared-slice-known3 .given i .fits)
     (λ i. known .before .shared-slice-known4 .given i .fits))

@@ -1,10 +1,11 @@
 -- `profile_table::find_here` meets its contract. Assumes nothing.
 use mathlib.Core.Path.{_≡_, sym, ap, _∙_}
 use mathlib.Core.Bool.{true, false}
+use lib.ListN.{drop}
 use Rattle.octets.specs.Same.{same}
 use Rattle.profile.specs.Table.{nameAt}
 use Rattle.profile_table.specs.declared.Found.the-variants.{Present}
-use Rattle.profile_table.proofs.Records.{name-lent}
+use Rattle.profile_table.proofs.Stepping.{kept-name}
 use borrow.Author.Needs.{needs}
 use Rattle.profile_table.proofs.find_here.Statement.{statement}
 use Rattle.profile_table.proofs.find_here.Tie as tie
@@ -14,6 +15,12 @@ enum-told c = search needs
 
 add-same : tie.Need-add-same
 add-same c = search needs
+
+add-same-2 : tie.Need-add-same-2
+add-same-2 c = search needs
+
+add-same-3 : tie.Need-add-same-3
+add-same-3 c = search needs
 
 sub-same : tie.Need-sub-same
 sub-same c = search needs
@@ -34,8 +41,8 @@ returns : tie.Need-returns
 returns c =
     let s = c .before .before .before .before .before .before .before .before in
     let a = s .args in
-    let name = name-lent (a .bytes .now) (a .n) (sym (s .pre .0)) in
-    let hit : same (a .name .now) (nameAt (a .bytes .now)) ≡ true =
+    let name = kept-name (a .table .now) (a .at) (a .n) (s .pre .0) in
+    let hit : same (a .name .now) (nameAt (drop (a .at) (a .table .now))) ≡ true =
     sym (c .before .before .same .ensures ∙ ap (same (a .name .now)) name) ∙ c .before .if1 .taken in
     rw (c .before .before .before .before .enum-told .given .1, hit) (ap Present (c .entry-of .ensures))
 
@@ -43,8 +50,8 @@ returns-2 : tie.Need-returns-2
 returns-2 c =
     let s = c .before .before .before .before .before .before .before in
     let a = s .args in
-    let name = name-lent (a .bytes .now) (a .n) (sym (s .pre .0)) in
-    let miss : same (a .name .now) (nameAt (a .bytes .now)) ≡ false =
+    let name = kept-name (a .table .now) (a .at) (a .n) (s .pre .0) in
+    let miss : same (a .name .now) (nameAt (drop (a .at) (a .table .now))) ≡ false =
     sym (c .before .same .ensures ∙ ap (same (a .name .now)) name) ∙ c .if1 .left in
     rw (c .before .before .before .enum-told .given .1, miss)
 
@@ -66,6 +73,8 @@ find-here-spec =
     (tie.spec
     enum-told
     add-same
+    add-same-2
+    add-same-3
     sub-same
     part-same-start
     part-same-end

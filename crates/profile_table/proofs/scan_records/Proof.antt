@@ -5,34 +5,85 @@ use mathlib.Core.List.{List, []}
 use Prim.Native.Nat.{ℕ, _+_, _-_, _≤_, _<_}
 use native.Mathlib.Omega.{arith}
 use borrow.Author.Needs.{needs}
-use borrow.Rule.Slice.PartAt.{part-to-end}
-use lib.ListN.{length, take, drop, length-drop}
-use Rattle.profile.specs.Profile.{version1}
-use Rattle.profile.specs.Table.{profileCount, profileAt}
+use lib.ListN.{length, take, drop}
+use Rattle.profile.specs.Profile.{Shape, recordLength}
+use Rattle.profile.specs.Table.{profileCount, shapeIn, profileIn}
+use Rattle.profile_record.specs.declared.Step.{Step}
+use Rattle.profile_record.specs.declared.Step.the-variants.{Next, Stop}
+use Rattle.profile_record.proofs.Reading.{recordsAfter, IsNext, Stepped}
 use Rattle.profile_table.specs.declared.Found.{Found}
-use Rattle.profile_table.specs.declared.Step.the-variants.{Next, Stop}
-use Rattle.profile_table.specs.internal.Steps.{IsNext, recordsAfter, foundHere, continued, scanned}
-use Rattle.profile_table.proofs.Stepping.{long, ahead, kept-name, further, stepped, ended}
+use Rattle.profile_table.specs.internal.Steps.{foundHere, continued, scanned}
+use Rattle.profile_table.proofs.Stepping.{ahead, kept-name, further, stepped, ended}
 use Rattle.profile_table.proofs.scan_records.Statement.{statement}
 use Rattle.profile_table.proofs.scan_records.Tie as tie
-use Rattle.profile_table.proofs.scan_records.Reads as reads
-use Rattle.profile_table.proofs.scan_records.Lts as lts
-use Rattle.profile_table.proofs.find_here.Reads as find-here-reads
-use Rattle.profile_table.proofs.next_record.Reads as next-record-reads
 
 record Far (table name : List ℕ) (at before end count : ℕ) (found : Found) : Type 0 where
   within : at ≤ length table
   ordered : before ≤ end
   inside : end ≤ length table
   few : count ≤ profileCount
-  whole : continued name count at found (recordsAfter count (take (end - before) (drop before table)) (drop at table))
-      ≡ scanned name (recordsAfter 0 [] (drop 1 table))
+  whole : continued name count at found (recordsAfter (shapeIn table) count (take (end - before) (drop before table)) (drop at table))
+      ≡ scanned name (recordsAfter (shapeIn table) 0 [] (drop 1 table))
 
 abbrev Inv-loop : tie.InvT-loop
-Inv-loop table name at₀ before₀ before-end₀ count₀ found₀ at before before-end count found = Far table name at before before-end count found
+Inv-loop table name version fixed at₀ before₀ before-end₀ count₀ found₀ at before before-end count found = Far table name at before before-end count found
 
 abbrev μ-loop : tie.MeasureT-loop
-μ-loop table name at₀ before₀ before-end₀ count₀ found₀ at before before-end count found = length table - at
+μ-loop table name version fixed at₀ before₀ before-end₀ count₀ found₀ at before before-end count found = length table - at
+
+-- the place after the call of next_record: what was lent and counted there
+abbrev Call : Type 0
+Call = tie.After-next-record Inv-loop μ-loop
+
+abbrev tableAt : Call → List ℕ
+tableAt y = y .before .before .before .before .before .before .before .before .before .args .table .now
+
+abbrev nameAt : Call → List ℕ
+nameAt y = y .before .before .before .before .before .before .before .before .before .args .name .now
+
+abbrev place : Call → ℕ
+place y = y .before .before .before .before .loop .at
+
+abbrev counted : Call → ℕ
+counted y = y .before .before .before .before .loop .count
+
+abbrev foundAt : Call → Found
+foundAt y = y .before .before .before .before .loop .found
+
+abbrev last : Call → List ℕ
+last y =
+    let l = y .before .before .before .before .loop in
+    take (l .before-end - l .before) (drop (l .before) (tableAt y))
+
+fixed : (y : Call) → y .before .before .before .before .before .record-length .result ≡ recordLength (shapeIn (tableAt y)) 0
+fixed y = y .before .before .before .before .before .record-length .ensures
+
+told : (y : Call) (t : Step) → y .next-record .result ≡ t → Stepped (shapeIn (tableAt y)) (counted y) (last y) (drop (place y) (tableAt y)) t
+told y t e = stepped (shapeIn (tableAt y)) (tableAt y) (last y) (place y) (counted y) _ t (omega arith) (y .next-record .ensures) e
+
+-- the place where a record is known, with a name of so many bytes
+abbrev Known : Type 0
+Known = tie.After-known-told2 Inv-loop μ-loop
+
+abbrev call : Known → Call
+call k = k .before .before .before
+
+abbrev nameLength : Known → ℕ
+nameLength k = k .before .n .given .0 .0
+
+next : (k : Known) → let y = call k in IsNext (shapeIn (tableAt y)) (counted y) (last y) (drop (place y) (tableAt y)) (nameLength k)
+next k = told (call k) (Next (nameLength k)) (k .before .n .given .1)
+
+reach : (k : Known) → let y = call k in place y + recordLength (shapeIn (tableAt y)) (nameLength k) ≤ length (tableAt y)
+reach k =
+    let y = call k in
+    ahead (shapeIn (tableAt y)) (tableAt y) (nameAt y) (place y) (counted y) (nameLength k) (foundAt y) (last y) (next k) (omega arith)
+
+shared-slice-read-version : tie.Need-shared-slice-read-version Inv-loop μ-loop
+shared-slice-read-version c = search needs
+
+record-length-requires : tie.Need-record-length-requires Inv-loop μ-loop
+record-length-requires c κs = search needs
 
 loop-holds : tie.Need-loop-holds Inv-loop μ-loop
 loop-holds c = record { within = omega arith; ordered = omega arith; inside = omega arith; few = omega arith; whole = refl }
@@ -63,111 +114,66 @@ enum-known-number c = search needs
 
 returns : tie.Need-returns Inv-loop μ-loop
 returns c =
-    let l = c .before .before .before .before .before .before .before .loop in
-    let table = c .before .before .before .before .before .before .before .before .before .before .args .table .now in
-    let name = c .before .before .before .before .before .before .before .before .before .before .args .name .now in
-    let before = take (l .before-end - l .before) (drop (l .before) table) in
-    let r = c .before .before .before .next-record in
-    let stop = stepped table before (l .at) (l .count) (r .result) (Stop (c .before .number .given .0 .0)) (r .ensures) (c .before .number .given .1) in
-    sym (ap (continued name (l .count) (l .at) (l .found)) stop) ∙ l .inv .whole
+    let y = c .before .before .before in
+    let stop = told y (Stop (c .before .number .given .0 .0)) (c .before .number .given .1) in
+    sym (ap (continued (nameAt y) (counted y) (place y) (foundAt y)) stop) ∙ y .before .before .before .before .loop .inv .whole
 
 enum-known-n : tie.Need-enum-known-n Inv-loop μ-loop
 enum-known-n c = search needs
 
-sub-find-here : tie.Need-sub-find-here Inv-loop μ-loop
-sub-find-here c = search needs
-
-part-find-here-start : tie.Need-part-find-here-start Inv-loop μ-loop
-part-find-here-start c = search needs
-
-part-find-here-end : tie.Need-part-find-here-end Inv-loop μ-loop
-part-find-here-end c = search needs
-
 find-here-requires : tie.Need-find-here-requires Inv-loop μ-loop
-find-here-requires c κs =
-    let l = c .before .before .before .before .before .before .before .before .loop in
-    let table = c .before .before .before .before .before .before .before .before .before .before .before .args .table .now in
-    let before = take (l .before-end - l .before) (drop (l .before) table) in
-    let r = c .before .before .before .before .next-record in
-    let n = c .before .before .n .given .0 .0 in
-    let is : IsNext (l .count) before (drop (l .at) table) n =
-    stepped table before (l .at) (l .count) (r .result) (Next n) (r .ensures) (c .before .before .n .given .1) in
-    let reach = long (drop (l .at) table) (is .is) in
-    rw (part-to-end table (l .at)) (is .named, omega (arith, is .named))
+find-here-requires c κs = (next c .named, omega (arith, reach c))
 
 add-before : tie.Need-add-before Inv-loop μ-loop
-add-before c = search needs
+add-before c = omega (arith, reach (c .before))
 
 add-before-end : tie.Need-add-before-end Inv-loop μ-loop
-add-before-end c = search needs
+add-before-end c = omega (arith, reach (c .before))
 
 add-before-end-2 : tie.Need-add-before-end-2 Inv-loop μ-loop
-add-before-end-2 c =
-    let l = c .before .before .before .before .before .before .before .before .before .loop in
-    let table = c .before .before .before .before .before .before .before .before .before .before .before .before .args .table .now in
-    let before = take (l .before-end - l .before) (drop (l .before) table) in
-    let r = c .before .before .before .before .before .next-record in
-    let n = c .before .before .before .n .given .0 .0 in
-    let is : IsNext (l .count) before (drop (l .at) table) n =
-    stepped table before (l .at) (l .count) (r .result) (Next n) (r .ensures) (c .before .before .before .n .given .1) in
-    let reach = ahead table (c .before .before .before .before .before .before .before .before .before .before .before .before .args .name .now) (l .at) (l .count) n (l .found) before is (rw length-drop (omega arith)) in
-    search needs
+add-before-end-2 c = omega (arith, reach (c .before))
 
 add-at : tie.Need-add-at Inv-loop μ-loop
-add-at c = search needs
+add-at c = omega (arith, reach (c .before), fixed (call (c .before)))
 
 add-at-2 : tie.Need-add-at-2 Inv-loop μ-loop
-add-at-2 c =
-    let l = c .before .before .before .before .before .before .before .before .before .loop in
-    let table = c .before .before .before .before .before .before .before .before .before .before .before .before .args .table .now in
-    let before = take (l .before-end - l .before) (drop (l .before) table) in
-    let r = c .before .before .before .before .before .next-record in
-    let n = c .before .before .before .n .given .0 .0 in
-    let is : IsNext (l .count) before (drop (l .at) table) n =
-    stepped table before (l .at) (l .count) (r .result) (Next n) (r .ensures) (c .before .before .before .n .given .1) in
-    let reach = ahead table (c .before .before .before .before .before .before .before .before .before .before .before .before .args .name .now) (l .at) (l .count) n (l .found) before is (rw length-drop (omega arith)) in
-    search needs
+add-at-2 c = omega (arith, reach (c .before), fixed (call (c .before)))
 
 add-count : tie.Need-add-count Inv-loop μ-loop
 add-count c = search needs
 
 loop-less : tie.Need-loop-less Inv-loop μ-loop
-loop-less c = search needs
+loop-less c = omega (arith, reach (c .before), fixed (call (c .before)))
 
 loop-again : tie.Need-loop-again Inv-loop μ-loop
 loop-again c =
-    let l = c .before .before .before .before .before .before .before .before .before .loop in
-    let table = c .before .before .before .before .before .before .before .before .before .before .before .before .args .table .now in
-    let before = take (l .before-end - l .before) (drop (l .before) table) in
-    let r = c .before .before .before .before .before .next-record in
-    let n = c .before .before .before .n .given .0 .0 in
-    let is : IsNext (l .count) before (drop (l .at) table) n =
-    stepped table before (l .at) (l .count) (r .result) (Next n) (r .ensures) (c .before .before .before .n .given .1) in
-    let name = c .before .before .before .before .before .before .before .before .before .before .before .before .args .name .now in
-    let some : 0 < length (drop (l .at) table) = rw length-drop (omega arith) in
-    let reach = ahead table name (l .at) (l .count) n (l .found) before is some in
-    let here = kept-name table name (l .at) (l .count) n (l .found) before is in
-    let at = l .at + 32 + n in
-    let more = l .count + 1 in
-    let found : c .find-here .result ≡ foundHere (l .at) name (profileAt version1 (drop (l .at) table)) (l .found) =
-    rw (part-to-end table (l .at)) at (c .find-here .ensures) in
+    let k = c .before in
+    let y = call k in
+    let table = tableAt y in
+    let s = shapeIn table in
+    let n = nameLength k in
+    let at : place y + y .before .before .before .before .before .record-length .result + n ≡ place y + recordLength s n = omega (arith, fixed y) in
+    let more = counted y + 1 in
+    let end = place y + recordLength s n in
     record {
-      within = reach;
+      within = omega (arith, reach k, fixed y);
       ordered = omega arith;
-      inside = omega arith;
-      few = omega (arith, is .few);
+      inside = omega (arith, reach k);
+      few = omega (arith, next k .few);
       whole =
-          ap₂ (λ (f : Found) (b : List ℕ). continued name more at f (recordsAfter more b (drop at table))) found here
-          ∙ sym (further table name (l .at) (l .count) n (l .found) before is)
-          ∙ l .inv .whole;
+          rw at (ap₂ (λ (f : Found) (b : List ℕ). continued (nameAt y) more end f (recordsAfter s more b (drop end table)))
+          (c .find-here .ensures) (kept-name table (place y) n (next k .named))
+          ∙ sym (further s table (nameAt y) (place y) (counted y) n (foundAt y) (last y) (next k))
+          ∙ y .before .before .before .before .loop .inv .whole);
     }
 
 returns-2 : tie.Need-returns-2 Inv-loop μ-loop
 returns-2 c =
     let l = c .before .loop in
-    let s = c .before .before .before .before .args in
+    let s = c .before .before .before .before .before .before .args in
     let table = s .table .now in
-    sym (ended table (s .name .now) (take (l .before-end - l .before) (drop (l .before) table)) (l .at) (l .count) (l .found) (omega arith)) ∙ l .inv .whole
+    sym (ended (shapeIn table) table (s .name .now) (take (l .before-end - l .before) (drop (l .before) table)) (l .at) (l .count) (l .found) (omega arith))
+    ∙ l .inv .whole
 
 pub scan-records-spec : {M : Type 1} → statement M
 scan-records-spec =
@@ -175,6 +181,8 @@ scan-records-spec =
     (tie.spec
     Inv-loop
     μ-loop
+    shared-slice-read-version
+    record-length-requires
     loop-holds
     sub-next-record
     part-next-record-start
@@ -186,9 +194,6 @@ scan-records-spec =
     enum-known-number
     returns
     enum-known-n
-    sub-find-here
-    part-find-here-start
-    part-find-here-end
     find-here-requires
     add-before
     add-before-end

@@ -1,9 +1,10 @@
 -- `profile_tokens::des_allowed` meets its contract: the flags are the third byte of the record. Assumes nothing.
-use mathlib.Core.Path.{ap, _∙_}
+use mathlib.Core.Path.{sym, ap, _∙_}
 use Prim.Native.Nat.{ℕ, _/_, _%_}
 use lib.Dec.{eqb}
-use Rattle.profile.specs.Profile.{marksOf}
-use Rattle.profile.specs.Table.{flagsAt}
+use lib.ListN.{drop}
+use Rattle.profile.specs.Table.{versionOf, flagsAt}
+use Rattle.profile.proofs.Shapes.{des-allowed-at}
 use borrow.Author.Needs.{needs}
 use Rattle.profile_tokens.proofs.des_allowed.Statement.{statement}
 use Rattle.profile_tokens.proofs.des_allowed.Tie as tie
@@ -15,8 +16,10 @@ byte-at-requires : tie.Need-byte-at-requires
 byte-at-requires c κs = search needs
 
 returns : tie.Need-returns
-unfolding marksOf
-returns c = ap (λ (f : ℕ). eqb (f / 2 % 2) 1) (c .byte-at .ensures ∙ ap flagsAt (c .before .record-at .ensures))
+returns c =
+    let a = c .before .before .before .args in
+    ap (λ (f : ℕ). eqb (f / 2 % 2) 1) (c .byte-at .ensures ∙ ap flagsAt (c .before .record-at .ensures))
+    ∙ sym (des-allowed-at (versionOf (a .table .now)) (drop (a .at) (a .table .now)))
 
 pub des-allowed-spec : {M : Type 1} → statement M
 des-allowed-spec = tie.close (tie.spec record-at-requires byte-at-requires returns)

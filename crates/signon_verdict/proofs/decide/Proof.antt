@@ -3,10 +3,11 @@ use mathlib.Core.Path.{_≡_, ap, _∙_}
 use Rattle.env.specs.Numbers.{variablesHeld}
 use Rattle.names.specs.Name.{raised}
 use Rattle.profile.specs.Table.{tableOf}
+use Rattle.profile_table.specs.declared.Found.{Found}
 use Rattle.profile_table.specs.Answer.{foundIn}
 use Rattle.signon.specs.declared.Answer.the-variants.{Given}
 use Rattle.signon_verdict.specs.internal.Decisions.{userOf}
-use Rattle.signon_verdict.proofs.Deciding.{decides}
+use Rattle.signon_verdict.proofs.Deciding.{Decides, decides}
 use borrow.Author.Needs.{needs}
 use Rattle.signon_verdict.proofs.decide.Statement.{statement}
 use Rattle.signon_verdict.proofs.decide.Tie as tie
@@ -29,45 +30,34 @@ without-profile-requires c κs = search needs
 enum-known-e : tie.Need-enum-known-e
 enum-known-e c = search needs
 
-with-profile-requires : tie.Need-with-profile-requires
-with-profile-requires c κs =
-    let a = c .before .before .before .before .before .before .before .before .before .args in
-    let u = c .before .before .before .before .user-of .ensures in
-    let f = c .before .before .before .find in
+-- what the look-up of the user's name found decides the answer
+abbrev start : tie.After-find → tie.Start
+start c = c .before .before .before .before .before .before
+
+told : (c : tie.After-find) (g : Found) → c .find .result ≡ g
+    → let a = start c .args in
+    Decides (a .server-seed .now) (a .table .now) (variablesHeld (a .bytes .now) (a .numbers .now)) g
+told c g e =
+    let a = start c .args in
     let vs = variablesHeld (a .bytes .now) (a .numbers .now) in
-    let found : f .result ≡ foundIn (raised (userOf vs)) (tableOf (a .table .now)) = f .ensures ∙ ap (λ n. foundIn (raised n) (tableOf (a .table .now))) u in
-    let d = decides (a .server-seed .now) (a .table .now) vs (λ i. c .before .before .before .before .before .before .before .shared-slice-known2 .given i .fits) (f .result) _ found (c .before .e .given .1) in
-    d .1
+    let f = c .find in
+    let found : f .result ≡ foundIn (raised (userOf vs)) (tableOf (a .table .now)) =
+    f .ensures ∙ ap (λ n. foundIn (raised n) (tableOf (a .table .now))) (c .before .user-of .ensures) in
+    decides (a .server-seed .now) (a .table .now) vs (λ i. c .before .before .before .before .shared-slice-known2 .given i .fits) (f .result) g found e
+
+with-profile-requires : tie.Need-with-profile-requires
+with-profile-requires c κs = told (c .before .before .before) _ (c .before .e .given .1) .1
 
 returns : tie.Need-returns
-returns c =
-    let a = c .before .before .before .before .before .before .before .before .before .args in
-    let u = c .before .before .before .before .user-of .ensures in
-    let f = c .before .before .before .find in
-    let vs = variablesHeld (a .bytes .now) (a .numbers .now) in
-    let found : f .result ≡ foundIn (raised (userOf vs)) (tableOf (a .table .now)) = f .ensures ∙ ap (λ n. foundIn (raised n) (tableOf (a .table .now))) u in
-    let d = decides (a .server-seed .now) (a .table .now) vs (λ i. c .before .before .before .before .before .before .before .shared-slice-known2 .given i .fits) (f .result) _ found (c .before .number .given .1) in
-    d
+returns c = told (c .before .before .before) _ (c .before .number .given .1)
 
 returns-2 : tie.Need-returns-2
 returns-2 c =
-    let a = c .before .before .before .before .before .before .before .before .before .args in
-    let u = c .before .before .before .before .user-of .ensures in
-    let f = c .before .before .before .find in
-    let vs = variablesHeld (a .bytes .now) (a .numbers .now) in
-    let found : f .result ≡ foundIn (raised (userOf vs)) (tableOf (a .table .now)) = f .ensures ∙ ap (λ n. foundIn (raised n) (tableOf (a .table .now))) u in
-    let d = decides (a .server-seed .now) (a .table .now) vs (λ i. c .before .before .before .before .before .before .before .shared-slice-known2 .given i .fits) (f .result) _ found (c .before .enum-told .given .1) in
-    ap Given (c .without-profile .ensures) ∙ d
+    let f = c .before .before .before in
+    ap Given (c .without-profile .ensures (start f .args .server-seed .now)) ∙ told f _ (c .before .enum-told .given .1)
 
 returns-3 : tie.Need-returns-3
-returns-3 c =
-    let a = c .before .before .before .before .before .before .before .before .before .before .args in
-    let u = c .before .before .before .before .before .user-of .ensures in
-    let f = c .before .before .before .before .find in
-    let vs = variablesHeld (a .bytes .now) (a .numbers .now) in
-    let found : f .result ≡ foundIn (raised (userOf vs)) (tableOf (a .table .now)) = f .ensures ∙ ap (λ n. foundIn (raised n) (tableOf (a .table .now))) u in
-    let d = decides (a .server-seed .now) (a .table .now) vs (λ i. c .before .before .before .before .before .before .before .before .shared-slice-known2 .given i .fits) (f .result) _ found (c .before .before .e .given .1) in
-    ap Given (c .with-profile .ensures) ∙ d .0
+returns-3 c = ap Given (c .with-profile .ensures) ∙ told (c .before .before .before .before) _ (c .before .before .e .given .1) .0
 
 pub decide-spec : {M : Type 1} → statement M
 decide-spec =

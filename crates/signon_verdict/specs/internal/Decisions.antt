@@ -1,13 +1,14 @@
--- A verdict in the code's order: first whether a profile was found, then the conditions that are left.
+-- What the variables of a payload say of a sign-on, and the entry that a look-up found.
 use Prim.Native.Nat.{ℕ}
-use mathlib.Core.Bool.{Bool, not, _&&_}
+use mathlib.Core.Bool.{Bool, true, not, _&&_}
+use mathlib.Core.Path.{_≡_}
 use mathlib.Core.List.{List, []}
-use Rattle.octets.specs.Choice.{if_then_else_}
 use Rattle.env.specs.Variable.{Variable, VAR, USERVAR, lookup, valueOr}
-use Rattle.profile.specs.Profile.{Profile, enabled}
-use Rattle.signon.specs.declared.Verdict.{Verdict}
-use Rattle.signon.specs.declared.Verdict.the-variants.{Panel, NotKnown, Disabled, Failed, Grant}
-use Rattle.signon.specs.Attempt.{USER, IBMRSEED, IBMSUBSPW, isPresent, isProved}
+use Rattle.names.specs.Name.{isName, profileLimit}
+use Rattle.profile.specs.Profile as Profiles
+use Rattle.profile.specs.Table.{profileIn}
+use Rattle.profile_table.specs.declared.Entry.{Entry}
+use Rattle.signon.specs.Attempt.{USER, IBMRSEED, IBMSUBSPW, isPresent}
 
 -- the values of the three variables, empty where they are absent
 abbrev pub userOf : List Variable → List ℕ
@@ -29,16 +30,8 @@ offerGiven vs = isPresent (lookup USERVAR IBMSUBSPW vs)
 abbrev pub isPanel : List Variable → Bool
 isPanel vs = not (seedGiven vs) && not (offerGiven vs)
 
--- no profile was found
-unfoldable pub unknownVerdict : List Variable → Verdict
-unknownVerdict vs = if isPanel vs then Panel else NotKnown
-
--- a profile was found
-unfoldable pub knownVerdict : List ℕ → List Variable → Profile → Verdict
-knownVerdict serverSeed vs p =
-    if isPanel vs then Panel else
-    if not (enabled p) then Disabled else
-    if not (seedGiven vs) then Failed else
-    if not (offerGiven vs) then Failed else
-    if isProved serverSeed (userOf vs) (seedOf vs) (offeredOf vs) p then Grant else
-    Failed
+-- the entry of the profile whose name the user has
+pub record IsEntry (table : List ℕ) (vs : List Variable) (e : Entry) : Type 0 where
+  pub user : isPresent (lookup VAR USER vs) ≡ true
+  pub name : isName profileLimit (userOf vs) ≡ true
+  pub enabled : e .enabled ≡ Profiles.enabled (profileIn table (e .at))

@@ -1,10 +1,10 @@
--- `signon_offer::des_proved` meets its contract. Assumes nothing.
+-- `signon_offer::gives_des` meets its contract. Assumes nothing.
 use mathlib.Core.Path.{sym, ap, _∙_}
 use borrow.Author.Tests.{not-true, not-false}
 use Rattle.password_check.specs.Gives.{givesDes}
 use borrow.Author.Needs.{needs}
-use Rattle.signon_offer.proofs.des_proved.Statement.{statement}
-use Rattle.signon_offer.proofs.des_proved.Tie as tie
+use Rattle.signon_offer.proofs.gives_des.Statement.{statement}
+use Rattle.signon_offer.proofs.gives_des.Tie as tie
 
 des-allowed-requires : tie.Need-des-allowed-requires
 des-allowed-requires c κs = search needs
@@ -23,9 +23,9 @@ returns-2 c =
     let p = c .before .before .before in
     let a = p .before .before .before .before .before .before .args in
     rw (sym (p .des-allowed .ensures) ∙ not-false _ (c .before .before .if1 .left))
-    (c .gives-des .ensures ∙ ap (λ t. givesDes t (a .user .now) (a .server-seed .now) (a .seed .now) (a .offered .now)) (c .before .des-token .ensures))
+    (c .gives-des .ensures ∙ ap (λ t. givesDes t (a .name .now) (a .server-seed .now) (a .client-seed .now) (a .offered .now)) (c .before .des-token .ensures))
 
-pub des-proved-spec : {M : Type 1} → statement M
-des-proved-spec =
+pub gives-des-spec : {M : Type 1} → statement M
+gives-des-spec =
     tie.close
     (tie.spec des-allowed-requires returns des-token-requires gives-des-requires returns-2)
