@@ -1,16 +1,16 @@
 -- Events and records of the line, and one side of an option: they refuse by their own numbers, and leave all as it was.
 -- Assumes nothing.
-use mathlib.Core.Path.{_≡_, refl, ap, subst}
-use mathlib.Core.Bool.{Bool, true, false, not, _||_}
-use mathlib.Core.List.{List, [], _∷_, _++_}
-use Prim.Native.Nat.{ℕ, suc}
+use mathlib.Core.Path.{refl}
+use mathlib.Core.Bool.{Bool, true, false, not}
+use mathlib.Core.List.{List, [], _∷_}
+use Prim.Native.Nat.{ℕ}
 use lib.Dec.{T, eqb, ltb}
 use lib.ListN.{length, drop}
-use Rattle.octets.specs.Choice.{if_then_else_}
-use Rattle.octets.specs.Lent.{Outcome, outcome, overwrite}
-use Rattle.octets.specs.Promise.{writeFront}
 use Rattle.octets.proofs.Choice.{choice}
+use Rattle.octets.proofs.Promise.{front-either}
 use Rattle.refusal.specs.Refusal.{noRoom}
+use Rattle.refusal.specs.RefusedBy.{Refusal, noRefusal, refusedBy, byNumber}
+use Rattle.refusal.specs.Written.{writtenInto, writtenRefusal}
 use Rattle.telnet.specs.Event.{Event, run, command, negotiation, subnegotiation, carriedBytes, lead, payloadLimit, iac, se}
 use Rattle.telnet.specs.declared.Lead.{Lead}
 use Rattle.telnet.specs.declared.Lead.the-variants.{Faulty, Opens, Negotiates, Simple}
@@ -18,19 +18,18 @@ use Rattle.telnet.specs.Write.{writable, written}
 use Rattle.telnet.specs.Read.{Front, noEvent, found, refused, eventOf}
 use Rattle.telnet.proofs.Refusals.{FrontBy, front-by}
 use Rattle.telnet.specs.Whole.{Ending, well, refusal, Mode, data′, iacSeen, choosing, opening, payload, closing, failed}
-use Rattle.telnet.specs.Whole.{Step, goes, leads, grown, stepByte, stops, readingFrom, reading, ended}
+use Rattle.telnet.specs.Whole.{Step, leads, grown, stepByte, stops, readingFrom, reading, ended}
 use Rattle.telnet.specs.Record.{Gathered, complete, noRecord, isEndOfRecord, withEvent, gathered, recordOf}
 use Rattle.telnet_reader.specs.Promise as Reader
-use Rattle.telnet_reader.specs.Promise.{lookAt, readAt}
-use Rattle.telnet_records.specs.Promise.{answerNoRecord, kept, recordAt}
+use Rattle.telnet_reader.specs.Promise.{lookAt, readAt, eventRefusal}
+use Rattle.telnet_records.specs.Promise.{answerNoRecord, kept, recordAt, recordRefusal}
 use Rattle.telnet_writer.specs.Promise.{unwritable, writeOf}
-use Rattle.telnet_line.specs.Promise.{putFront}
 use Rattle.option_rules.specs.declared.Command.{Command}
 use Rattle.option_rules.specs.declared.Command.the-variants.{On as on, Off as off}
 use Rattle.option_rules.specs.declared.Side.{Side}
 use Rattle.option_rules.specs.declared.Side.the-variants.{Off, On, WantOff, WantOffThenOn, WantOn, WantOnThenOff}
-use Rattle.option_rules.specs.Table.{Row, table, untouched, carried, rulesOf, stepBy, onReceive, onRequest}
-use Rattle.claims.specs.Refusals.{Refusal, noRefusal, refusedBy, oneOf, Refuses, byNumber, byReceipt, ofEvent, ofRecord, ofEventWritten, ofListed}
+use Rattle.option_rules.specs.Table.{Row, table, untouched, carried, rulesOf, onReceive, onRequest}
+use Rattle.claims.specs.Refusals.{oneOf, Refuses, byReceipt}
 use Rattle.claims.proofs.OneOf.{more}
 use Rattle.claims.specs.Demand1.{line, RefusesBy, RefusesInto}
 
@@ -48,41 +47,44 @@ by-more : (m : ℕ) (ms : List ℕ) {L : Type 0} (before after : L) (r : Refusal
 by-more m ms before after noRefusal t = tt
 by-more m ms before after (refusedBy n) t = (more m ms n (t .0), t .1)
 
-pub answered-by : (at : ℕ) (f : Front) → ByLine f → RefusesBy line (ofEvent (Reader.answered at f))
+pub answered-by : (at : ℕ) (f : Front) → ByLine f → RefusesBy line (eventRefusal (Reader.answered at f))
 unfolding Reader.answered
 answered-by at noEvent t = tt
 answered-by at (found e) t = tt
 answered-by at (refused n) t = (t, refl)
 
-pub looks : (s : List ℕ) (at : ℕ) → RefusesBy (5 ∷ line) (ofEvent (lookAt s at))
+pub looks : (s : List ℕ) (at : ℕ) → RefusesBy (5 ∷ line) (eventRefusal (lookAt s at))
 unfolding lookAt oneOf
 looks s at =
     let f = eventOf (drop at s) in
-    choice (λ a. RefusesBy (5 ∷ line) (ofEvent a)) (ltb (length s) at) (λ _. (tt, refl))
-    (λ _. by-more 5 line _ _ (ofEvent (Reader.answered at f)) (answered-by at f (by-line (drop at s))))
+    choice (λ a. RefusesBy (5 ∷ line) (eventRefusal a)) (ltb (length s) at) (λ _. (tt, refl))
+    (λ _. by-more 5 line _ _ (eventRefusal (Reader.answered at f)) (answered-by at f (by-line (drop at s))))
 
 pub delivered-by : (at : ℕ) (f : Front) (out : List ℕ) → ByLine f
-    → RefusesInto (4 ∷ line) ofEvent out (Reader.delivered at f out)
+    → RefusesInto (4 ∷ line) eventRefusal out (Reader.delivered at f out)
 unfolding Reader.delivered Reader.answered oneOf
 delivered-by at noEvent out t = tt
 delivered-by at (refused n) out t = (more 4 line n t, refl)
 delivered-by at (found e) out t =
-    choice (RefusesInto (4 ∷ line) ofEvent out) (ltb (length out) (length (carriedBytes e))) (λ _. (tt, refl)) (λ _. tt)
+    front-either _ _ (carriedBytes e) out (RefusesInto (4 ∷ line) eventRefusal out) (λ _. (tt, refl)) (λ _. tt)
 
-pub reads : (s : List ℕ) (at : ℕ) (out : List ℕ) → RefusesInto (5 ∷ 4 ∷ line) ofEvent out (readAt s at out)
+pub reads : (s : List ℕ) (at : ℕ) (out : List ℕ) → RefusesInto (5 ∷ 4 ∷ line) eventRefusal out (readAt s at out)
 unfolding readAt oneOf
 reads s at out =
     let f = eventOf (drop at s) in
     let by = delivered-by at f out (by-line (drop at s)) in
-    choice (RefusesInto (5 ∷ 4 ∷ line) ofEvent out) (ltb (length s) at) (λ _. (tt, refl))
-    (λ _. by-more 5 (4 ∷ line) _ _ (ofEvent (Reader.delivered at f out .answer)) by)
+    choice (RefusesInto (5 ∷ 4 ∷ line) eventRefusal out) (ltb (length s) at) (λ _. (tt, refl))
+    (λ _. by-more 5 (4 ∷ line) _ _ (eventRefusal (Reader.delivered at f out .answer)) by)
 
-pub writes : (e : Event) (out : List ℕ) → RefusesInto (7 ∷ 3 ∷ 4 ∷ []) ofEventWritten out (writeOf e out)
+-- bytes written to the front of a buffer
+pub written-by : (ms : List ℕ) → T (oneOf ms noRoom) → (bytes out : List ℕ) → RefusesInto ms writtenRefusal out (writtenInto bytes out)
+written-by ms four bytes out = front-either _ _ bytes out (RefusesInto ms writtenRefusal out) (λ _. (four, refl)) (λ _. tt)
+
+pub writes : (e : Event) (out : List ℕ) → RefusesInto (7 ∷ 3 ∷ 4 ∷ []) writtenRefusal out (writeOf e out)
 unfolding writeOf unwritable oneOf
 writes e out =
-    choice (RefusesInto (7 ∷ 3 ∷ 4 ∷ []) ofEventWritten out) (writable e)
-    (λ _. choice (RefusesInto (7 ∷ 3 ∷ 4 ∷ []) ofEventWritten out) (ltb (length out) (length (written e))) (λ _. (tt, refl)) (λ _. tt))
-    (λ _. (unwritten e, refl))
+    choice (RefusesInto (7 ∷ 3 ∷ 4 ∷ []) writtenRefusal out) (not (writable e)) (λ _. (unwritten e, refl))
+    (λ _. written-by (7 ∷ 3 ∷ 4 ∷ []) tt (written e) out)
   where
     unwritten : (e : Event) → T (oneOf (7 ∷ 3 ∷ 4 ∷ []) (unwritable e))
     unwritten (run d) = tt
@@ -90,9 +92,9 @@ writes e out =
     unwritten (negotiation v o) = tt
     unwritten (subnegotiation o p) = tt
 
-pub lists : (words out : List ℕ) → RefusesInto (4 ∷ []) ofListed out (putFront words out)
-unfolding putFront oneOf
-lists words out = choice (RefusesInto (4 ∷ []) ofListed out) (ltb (length out) (length words)) (λ _. (tt, refl)) (λ _. tt)
+pub lists : (words out : List ℕ) → RefusesInto (4 ∷ []) writtenRefusal out (writtenInto words out)
+unfolding oneOf
+lists words out = written-by (4 ∷ []) tt words out
 
 -- how a reading ends
 abbrev EndingBy : Ending → Type 0
@@ -166,19 +168,19 @@ unfolding recordOf reading
 record-by bs = gathered-by (reading bs .events) (reading bs .ending) (ending-by (data′ []) bs tt)
 
 pub kept-by : (at : ℕ) (g : Gathered) (out : List ℕ) → GatheredBy g
-    → RefusesInto (4 ∷ line) ofRecord out (kept at g out)
+    → RefusesInto (4 ∷ line) recordRefusal out (kept at g out)
 unfolding kept answerNoRecord oneOf
 kept-by at (noRecord well) out t = tt
 kept-by at (noRecord (refusal n)) out t = (more 4 line n t, refl)
 kept-by at (complete d n) out t =
-    choice (RefusesInto (4 ∷ line) ofRecord out) (ltb (length out) (length d)) (λ _. (tt, refl)) (λ _. tt)
+    front-either _ _ d out (RefusesInto (4 ∷ line) recordRefusal out) (λ _. (tt, refl)) (λ _. tt)
 
-pub reads-records : (s : List ℕ) (at : ℕ) (out : List ℕ) → RefusesInto (5 ∷ 4 ∷ line) ofRecord out (recordAt s at out)
+pub reads-records : (s : List ℕ) (at : ℕ) (out : List ℕ) → RefusesInto (5 ∷ 4 ∷ line) recordRefusal out (recordAt s at out)
 unfolding recordAt oneOf
 reads-records s at out =
     let g = recordOf (drop at s) in
-    choice (RefusesInto (5 ∷ 4 ∷ line) ofRecord out) (ltb (length s) at) (λ _. (tt, refl))
-    (λ _. by-more 5 (4 ∷ line) _ _ (ofRecord (kept at g out .answer)) (kept-by at g out (record-by (drop at s))))
+    choice (RefusesInto (5 ∷ 4 ∷ line) recordRefusal out) (ltb (length s) at) (λ _. (tt, refl))
+    (λ _. by-more 5 (4 ∷ line) _ _ (recordRefusal (kept at g out .answer)) (kept-by at g out (record-by (drop at s))))
 
 -- one side of an option, by the table or as one that is not carried
 abbrev ReceivesBy : (Side → Row) → Type 0

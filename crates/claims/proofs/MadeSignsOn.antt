@@ -14,6 +14,9 @@ use mir.Facts.{yes-and}
 use lib.Dec.{T, eqb→eq}
 use Rattle.octets.specs.Lent.{Outcome}
 use Rattle.octets.proofs.Choice.{choice}
+use Rattle.refusal.specs.declared.Written.{Written}
+use Rattle.refusal.specs.declared.Written.the-variants.{Wrote}
+use Rattle.refusal.proofs.Writing.{not-wrote}
 use Rattle.words.specs.BigEndian.{number, bytes}
 use Rattle.words.proofs.BigEndian.{length-bytes, number-bytes}
 use Rattle.names.specs.Name.{isName, profileLimit}
@@ -25,8 +28,6 @@ use Rattle.profile.specs.Theorems.{WellFormed, Ascending, Occurs}
 use Rattle.profile.proofs.Fronts.{fronts}
 use Rattle.profile.proofs.Shapes.{short}
 use Rattle.profile.proofs.Backs.{tables-written-back}
-use Rattle.profile_maker.specs.declared.Made.{Made}
-use Rattle.profile_maker.specs.declared.Made.the-variants.{Wrote, Refused}
 use Rattle.profile_maker.specs.Made.{Making, making, hasDesToken, desTokenBytes, madeProfile}
 use Rattle.profile_maker.specs.Promise.{makeInto}
 use Rattle.profile_maker.proofs.Goodness.{made-records-are-good}
@@ -42,7 +43,7 @@ use Rattle.signon.specs.declared.Verdict.the-variants.{Grant}
 use Rattle.signon.specs.Theorems.{zeroSeed, Granted, Session}
 use Rattle.signon.proofs.Sentences.{formed-in}
 use Rattle.signon.proofs.Verdicts.{verdict-is-its-sentence}
-use Rattle.claims.specs.MadeSignsOn.{MadeOf, Stored, BySha, ByDes, Offered, MadeSignsOn}
+use Rattle.claims.specs.MadeSignsOn.{MadeOf, Stored, BySha, ByDes, MadeSignsOn}
 
 -- a seed of eight bytes is its number again
 number-seed : (seed : ℕ) → seed < 2 ^ 64 → number (bytes 8 seed) ≡ seed
@@ -54,9 +55,6 @@ same-record v p q a b e =
     let front : List ℕ → Profile = λ l. profileAt (shapeOf v) (l ++ []) in
     sym (fronts (shapeOf v) p [] a (short v) .says) ∙ ap front e ∙ fronts (shapeOf v) q [] b (short v) .says
 
-not-wrote : {A : Type 0} {k n : ℕ} → Refused k ≡ Wrote n → A
-not-wrote e = let z : _≡_ {A = ℕ} 0 1 = cc in absurd (omega arith)
-
 -- where the token maker wrote, the name and the password are good
 good : (m : Making) (out : List ℕ) (n : ℕ) → makeInto m out .answer ≡ Wrote n
     → (isName profileLimit (m .name) ≡ true) × (Sha.isPassword (m .password) ≡ true)
@@ -64,7 +62,7 @@ unfolding makeInto
 good m out n =
     let name = isName profileLimit (m .name) in
     let password = Sha.isPassword (m .password) in
-    let Both : Outcome Made → Type 0 = λ o. o .answer ≡ Wrote n → (name ≡ true) × (password ≡ true) in
+    let Both : Outcome Written → Type 0 = λ o. o .answer ≡ Wrote n → (name ≡ true) × (password ≡ true) in
     choice Both (not name) (λ _ e. not-wrote e)
     (λ named. choice Both (not password) (λ _ e. not-wrote e)
     (λ passed _. (not-false name named, not-false password passed)))

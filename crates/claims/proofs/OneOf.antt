@@ -5,7 +5,8 @@ use mathlib.Core.Bool.{Bool, true, false, _||_}
 use mathlib.Core.List.{List, [], _∷_, _++_}
 use Prim.Native.Nat.{ℕ}
 use lib.Dec.{T, eqb}
-use Rattle.claims.specs.Refusals.{Refusal, noRefusal, refusedBy, oneOf, Refuses}
+use Rattle.refusal.specs.RefusedBy.{Refusal, noRefusal, refusedBy}
+use Rattle.claims.specs.Refusals.{oneOf, Refuses}
 use Rattle.claims.specs.Demand1.{RefusesBy}
 
 or-right : (a b : Bool) → T b → T (a || b)

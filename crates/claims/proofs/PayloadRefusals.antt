@@ -1,6 +1,7 @@
 -- Environment strings: the reader, what it is made of, and the writer refuse by their own numbers, and leave buffer
 -- and list as they were. Assumes nothing.
 use mathlib.Core.Path.{refl}
+use mathlib.Core.Bool.{not}
 use mathlib.Core.List.{List, [], _∷_}
 use Prim.Native.Nat.{ℕ, suc}
 use lib.Dec.{T, ltb}
@@ -15,14 +16,16 @@ use Rattle.env.specs.Read.{Found, variables, fault, addVariable, limited, whole
 use Rattle.env.specs.Write.{Objection, none, against, objection, payloadOf, nameless}
 use Rattle.env.specs.Numbers.{packed, recorded, variablesHeld, placed}
 use Rattle.env_delivery.specs.declared.Answer.{Answer}
-use Rattle.env_delivery.specs.Promise.{Delivery, delivered, readInto, readAfter, handOver, deliverRead}
+use Rattle.env_delivery.specs.Promise.{Delivery, delivered, readInto, readAfter, handOver, deliverRead, payloadRefusal}
 use Rattle.env_list.specs.Reading.{listed, readRecords}
 use Rattle.env_list.specs.Lists.{Listing}
 use Rattle.env_writer.specs.Promise.{put, writeInto}
 use Rattle.refusal.specs.Refusal.{noRoom, noVariable, valueInValue}
-use Rattle.claims.specs.Refusals.{oneOf, Refuses, ofPayload, ofPayloadWritten}
+use Rattle.refusal.specs.Written.{writtenRefusal}
+use Rattle.claims.specs.Refusals.{oneOf, Refuses}
 use Rattle.claims.specs.Demand1.{payload, RefusesInto, RefusesBoth}
 use Rattle.claims.proofs.OneOf.{more}
+use Rattle.claims.proofs.LineRefusals.{written-by}
 
 -- the first fault of variables
 abbrev FoundBy : Found → Type 0
@@ -130,7 +133,7 @@ module _ (first : ℕ) (texts records bytes numbers : List ℕ) where
 
 -- the reader into a list of records
 abbrev ListsBy : List ℕ → List VariableRecord → Listing (Outcome Answer) → Type 0
-ListsBy bytes list d = Refuses (4 ∷ payload) {L = List ℕ × List VariableRecord} (bytes, list) (d .answer .lent, d .records) (ofPayload (d .answer .answer))
+ListsBy bytes list d = Refuses (4 ∷ payload) {L = List ℕ × List VariableRecord} (bytes, list) (d .answer .lent, d .records) (payloadRefusal (d .answer .answer))
 
 listed-by : (r : Reading) (bytes : List ℕ) (list : List VariableRecord) → ReadingBy r → ListsBy bytes list (listed r bytes list)
 unfolding listed oneOf
@@ -158,16 +161,15 @@ objection-by first vs =
     (λ _. choice ObjectionBy (repeated vs) (λ _. tt)
     (λ _. choice ObjectionBy (ltb payloadLimit (length (payloadOf first vs))) (λ _. tt) (λ _. tt))))
 
-put-by : (o : Objection) (p out : List ℕ) → ObjectionBy o → RefusesInto numbers ofPayloadWritten out (put o p out)
+put-by : (o : Objection) (p out : List ℕ) → ObjectionBy o → RefusesInto numbers writtenRefusal out (put o p out)
 unfolding put oneOf
-put-by none p out t = choice (RefusesInto numbers ofPayloadWritten out) (ltb (length out) (length p)) (λ _. (tt, refl)) (λ _. tt)
+put-by none p out t = written-by numbers tt p out
 put-by (against n) p out t = (t, refl)
 
-pub writes-payloads : (first : ℕ) (bytes list out : List ℕ) → RefusesInto numbers ofPayloadWritten out (writeInto first bytes list out)
+pub writes-payloads : (first : ℕ) (bytes list out : List ℕ) → RefusesInto numbers writtenRefusal out (writeInto first bytes list out)
 unfolding writeInto oneOf
 writes-payloads first bytes list out =
     let vs = variablesHeld bytes list in
-    choice (RefusesInto numbers ofPayloadWritten out) (isFirst first)
-    (λ _. choice (RefusesInto numbers ofPayloadWritten out) (placed bytes list)
-    (λ _. put-by (objection first vs) (payloadOf first vs) out (objection-by first vs)) (λ _. (tt, refl)))
-    (λ _. (tt, refl))
+    choice (RefusesInto numbers writtenRefusal out) (not (isFirst first)) (λ _. (tt, refl))
+    (λ _. choice (RefusesInto numbers writtenRefusal out) (not (placed bytes list)) (λ _. (tt, refl))
+    (λ _. put-by (objection first vs) (payloadOf first vs) out (objection-by first vs)))

@@ -10,17 +10,18 @@ use borrow.Author.Tests.{ltb-true, lt-ltb}
 use Rattle.octets.specs.Choice.{if_then_else_}
 use Rattle.octets.specs.Lent.{Outcome}
 use Rattle.octets.proofs.Choice.{choice}
+use Rattle.refusal.specs.RefusedBy.{Refusal, refusedBy}
 use Rattle.telnet.specs.Read.{eventOf}
 use Rattle.telnet.specs.Record.{recordOf}
 use Rattle.telnet_reader.specs.declared.Answer.{Answer}
 use Rattle.telnet_reader.specs.declared.Answer.the-variants.{Refused as EventRefused}
-use Rattle.telnet_reader.specs.Promise.{answered, lookAt, delivered, readAt}
+use Rattle.telnet_reader.specs.Promise.{answered, lookAt, delivered, readAt, eventRefusal}
 use Rattle.telnet_records.specs.declared.Record.{Record}
 use Rattle.telnet_records.specs.declared.Record.the-variants.{Refused as RecordRefused}
-use Rattle.telnet_records.specs.Promise.{kept, recordAt}
+use Rattle.telnet_records.specs.Promise.{kept, recordAt, recordRefusal}
 use Rattle.option_line.proofs.Telling.{request-tells-all, receipt-tells-all}
 use Rattle.option_line.proofs.Hearing.{hear-tells}
-use Rattle.claims.specs.Refusals.{Refusal, refusedBy, oneOf, Refuses, ofEvent, ofRecord}
+use Rattle.claims.specs.Refusals.{oneOf, Refuses}
 use Rattle.claims.specs.Demand1.{line}
 use Rattle.claims.specs.Orders.{FiveFirst}
 use Rattle.claims.proofs.LineRefusals.{by-line, answered-by, delivered-by, record-by, kept-by}
@@ -51,17 +52,17 @@ five-first = record {
       let f = eventOf (drop at s) in
       let by = answered-by at f (by-line (drop at s)) in
       past-first (λ (a : Answer). a) (EventRefused 5) s at _ (answered at f) refl
-      (λ e. never line 5 tt tt _ (λ x. x) by (ap ofEvent e));
+      (λ e. never line 5 tt tt _ (λ x. x) by (ap eventRefusal e));
   read = λ s at out.
       let f = eventOf (drop at s) in
       let by = delivered-by at f out (by-line (drop at s)) in
       past-first (λ (o : Outcome Answer). o .answer) (EventRefused 5) s at _ (delivered at f out) refl
-      (λ e. never (4 ∷ line) 5 out (delivered at f out .lent) _ (λ x. x) by (ap ofEvent e));
+      (λ e. never (4 ∷ line) 5 out (delivered at f out .lent) _ (λ x. x) by (ap eventRefusal e));
   readRecord = λ s at out.
       let g = recordOf (drop at s) in
       let by = kept-by at g out (record-by (drop at s)) in
       past-first (λ (o : Outcome Record). o .answer) (RecordRefused 5) s at _ (kept at g out) refl
-      (λ e. never (4 ∷ line) 5 out (kept at g out .lent) _ (λ x. x) by (ap ofRecord e));
+      (λ e. never (4 ∷ line) 5 out (kept at g out .lent) _ (λ x. x) by (ap recordRefusal e));
   request = λ s w o c l at. request-tells-all s w o c l at .five;
   receive = λ s v o accept l at. receipt-tells-all s v o accept l at .five;
   hear = λ s heard from accept l at. hear-tells s heard from accept l at .five;

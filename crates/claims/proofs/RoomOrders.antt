@@ -14,18 +14,20 @@ use Rattle.octets.specs.Choice.{if_then_else_}
 use Rattle.octets.specs.Lent.{Outcome}
 use Rattle.octets.specs.Promise.{writeFront}
 use Rattle.octets.proofs.Choice.{choice}
+use Rattle.refusal.specs.RefusedBy.{Refusal, noRefusal, refusedBy}
+use Rattle.refusal.specs.Written.{writtenRefusal}
 use Rattle.telnet.specs.Event.{Event, run, command, negotiation, subnegotiation, carriedBytes, payloadLimit}
 use Rattle.telnet.specs.Write.{writable, written}
 use Rattle.telnet.specs.Whole.{well, refusal}
 use Rattle.telnet.specs.Read.{Front, noEvent, found, refused, eventOf}
 use Rattle.telnet.specs.Record.{Gathered, complete, noRecord, recordOf}
 use Rattle.telnet_reader.specs.Promise as Reader
-use Rattle.telnet_reader.specs.Promise.{readAt}
-use Rattle.telnet_records.specs.Promise.{answerNoRecord, kept, recordAt}
+use Rattle.telnet_reader.specs.Promise.{readAt, eventRefusal}
+use Rattle.telnet_records.specs.Promise.{answerNoRecord, kept, recordAt, recordRefusal}
 use Rattle.telnet_writer.specs.Promise.{unwritable, writeOf}
 use Rattle.option_rules.specs.declared.Command.{Command}
 use Rattle.option_rules.proofs.Cells.{request-tells}
-use Rattle.option_sides.specs.declared.Whose.{Whose}
+use Rattle.option_verbs.specs.declared.Whose.{Whose}
 use Rattle.option_sides.specs.declared.Sides.{Sides}
 use Rattle.option_sides.specs.Session.{sideAt}
 use Rattle.option_line.specs.declared.Sent.{Sent}
@@ -38,7 +40,7 @@ use Rattle.env.specs.Read.{Reading, says, notRead, readingOf}
 use Rattle.env.specs.Write.{Objection, objection, payloadOf, nameless}
 use Rattle.env.specs.Numbers.{packed, recorded, variablesHeld, placed}
 use Rattle.env_delivery.specs.declared.Answer.{Answer as PayloadAnswer}
-use Rattle.env_delivery.specs.Promise.{Delivery, delivered}
+use Rattle.env_delivery.specs.Promise.{Delivery, delivered, payloadRefusal}
 use Rattle.env_list.specs.Lists.{Listing}
 use Rattle.env_list.specs.Reading.{listed}
 use Rattle.env_writer.specs.Promise.{put, writeInto}
@@ -52,9 +54,8 @@ use Rattle.startup.specs.Response.{responseOf}
 use Rattle.startup_record.specs.Promise.{respondInto}
 use Rattle.print_ledger.specs.declared.Ledger.{Ledger}
 use Rattle.print_ledger.specs.declared.Completed.{Completed}
-use Rattle.print_ledger.specs.Ledger.{printComplete, completeInto}
-use Rattle.claims.specs.Refusals.{Refusal, noRefusal, refusedBy, oneOf, ofEvent, ofRecord, ofEventWritten}
-use Rattle.claims.specs.Refusals.{ofPayload, ofPayloadWritten, ofMade, ofResponse, ofCompletion}
+use Rattle.print_ledger.specs.Ledger.{printComplete, completeInto, completionRefusal}
+use Rattle.claims.specs.Refusals.{oneOf}
 use Rattle.claims.specs.Demand1.{line, payload}
 use Rattle.claims.specs.Orders.{Last, OneBuffer, BufferAndList, FourLast}
 use Rattle.claims.proofs.LineRefusals.{by-line, ByLine, GatheredBy, record-by}
@@ -109,12 +110,17 @@ last room s = record {
   enough = λ l e. (room, s .nothing);
 }
 
--- so many bytes put into a buffer
-one-buffer : {A : Type 0} (tell : A → Refusal) (n : ℕ) {x y : List ℕ → A}
-    → ((out : List ℕ) → tell (x out) ≡ refusedBy 4) → ((out : List ℕ) → tell (y out) ≡ noRefusal)
-    → OneBuffer (λ out. tell (if ltb (length out) n then x out else y out))
-one-buffer tell n refuses writes =
-    last n (short tell (λ out. ltb (length out) n) (λ out h. le-ltb (length out) n h) refuses (done writes))
+-- what an outcome refuses by
+abbrev told : {A : Type 0} → (A → Refusal) → Outcome A → Refusal
+told of o = of (o .answer)
+
+-- bytes written to the front of a buffer
+one-buffer : {A : Type 0} (tell : A → Refusal) (wrote : ℕ → A) (none : A) (bytes : List ℕ) → tell none ≡ refusedBy 4
+    → tell (wrote (length bytes)) ≡ noRefusal → OneBuffer (λ out. tell (writeFront wrote none bytes out .answer))
+unfolding writeFront
+one-buffer tell wrote none bytes refuses writes =
+    last (length bytes)
+    (short (told tell) (λ out. ltb (length out) (length bytes)) (λ out h. le-ltb (length out) (length bytes) h) (λ _. refuses) (done (λ _. writes)))
 
 -- so many bytes and so many elements
 both : {A E : Type 0} (tell : A → Refusal) (n m : ℕ) {x y z : List ℕ × List E → A}
@@ -126,40 +132,35 @@ both tell n m bytes list writes =
     (short tell (λ l. ltb (length (l .0)) n) (λ l h. le-ltb (length (l .0)) n (omega arith)) bytes
     (short tell (λ l. ltb (length (l .1)) m) (λ l h. le-ltb (length (l .1)) m (omega arith)) list (done writes)))
 
--- what an outcome refuses by
-abbrev told : {A : Type 0} → (A → Refusal) → Outcome A → Refusal
-told of o = of (o .answer)
-
-delivers : (at : ℕ) (f : Front) → ByLine f → OneBuffer (λ out. told ofEvent (Reader.delivered at f out))
+delivers : (at : ℕ) (f : Front) → ByLine f → OneBuffer (λ out. told eventRefusal (Reader.delivered at f out))
 unfolding Reader.delivered Reader.answered oneOf
 delivers at noEvent t = fixed noRefusal tt (λ _. refl)
 delivers at (refused n) t = fixed (refusedBy n) (apart line 4 n (λ x. x) t) (λ _. refl)
-delivers at (found e) t = one-buffer (told ofEvent) (length (carriedBytes e)) (λ _. refl) (λ _. refl)
+delivers at (found e) t = one-buffer eventRefusal _ _ (carriedBytes e) refl refl
 
-reads : (s : List ℕ) (at : ℕ) → OneBuffer (λ out. told ofEvent (readAt s at out))
+reads : (s : List ℕ) (at : ℕ) → OneBuffer (λ out. told eventRefusal (readAt s at out))
 unfolding readAt
 reads s at =
-    walked (told ofEvent) (ltb (length s) at) (fixed (refusedBy 5) (omega arith) (λ _. refl))
+    walked (told eventRefusal) (ltb (length s) at) (fixed (refusedBy 5) (omega arith) (λ _. refl))
     (delivers at (eventOf (drop at s)) (by-line (drop at s)))
 
-keeps : (at : ℕ) (g : Gathered) → GatheredBy g → OneBuffer (λ out. told ofRecord (kept at g out))
+keeps : (at : ℕ) (g : Gathered) → GatheredBy g → OneBuffer (λ out. told recordRefusal (kept at g out))
 unfolding kept answerNoRecord oneOf
 keeps at (noRecord well) t = fixed noRefusal tt (λ _. refl)
 keeps at (noRecord (refusal n)) t = fixed (refusedBy n) (apart line 4 n (λ x. x) t) (λ _. refl)
-keeps at (complete d n) t = one-buffer (told ofRecord) (length d) (λ _. refl) (λ _. refl)
+keeps at (complete d n) t = one-buffer recordRefusal _ _ d refl refl
 
-reads-records : (s : List ℕ) (at : ℕ) → OneBuffer (λ out. told ofRecord (recordAt s at out))
+reads-records : (s : List ℕ) (at : ℕ) → OneBuffer (λ out. told recordRefusal (recordAt s at out))
 unfolding recordAt
 reads-records s at =
-    walked (told ofRecord) (ltb (length s) at) (fixed (refusedBy 5) (omega arith) (λ _. refl))
+    walked (told recordRefusal) (ltb (length s) at) (fixed (refusedBy 5) (omega arith) (λ _. refl))
     (keeps at (recordOf (drop at s)) (record-by (drop at s)))
 
-writes : (e : Event) → OneBuffer (λ out. told ofEventWritten (writeOf e out))
+writes : (e : Event) → OneBuffer (λ out. told writtenRefusal (writeOf e out))
 unfolding writeOf unwritable
 writes e =
-    walked (told ofEventWritten) (writable e)
-    (one-buffer (told ofEventWritten) (length (written e)) (λ _. refl) (λ _. refl))
-    (fixed (refusedBy (unwritable e)) (unwritten e) (λ _. refl))
+    walked (told writtenRefusal) (not (writable e)) (fixed (refusedBy (unwritable e)) (unwritten e) (λ _. refl))
+    (one-buffer writtenRefusal _ _ (written e) refl refl)
   where
     unwritten : (e : Event) → unwritable e ≡ 4 → ⊥
     unwritten (run d) = omega arith
@@ -184,10 +185,10 @@ requests s w o c l at n within t e =
 
 -- a payload into a buffer and numbers, and into a buffer and records
 abbrev delivery : Delivery → Refusal
-delivery d = ofPayload (d .answer)
+delivery d = payloadRefusal (d .answer)
 
 abbrev listing : Listing (Outcome PayloadAnswer) → Refusal
-listing d = ofPayload (d .answer .answer)
+listing d = payloadRefusal (d .answer .answer)
 
 reads-payloads : (r : Reading) → ReadingBy r
     → BufferAndList (λ (l : List ℕ × List ℕ). delivery (delivered r (l .0) (l .1)))
@@ -204,7 +205,7 @@ reads-lists (says first vs) t = both listing (length (packed vs)) (length vs) (�
 
 -- a payload of variables
 puts : (first : ℕ) (vs : List Variable)
-    → OneBuffer (λ out. told ofPayloadWritten (put (objection first vs) (payloadOf first vs) out))
+    → OneBuffer (λ out. told writtenRefusal (put (objection first vs) (payloadOf first vs) out))
 unfolding put objection
 puts first vs =
     choice Puts (nameless vs) (λ _. fixed (refusedBy 21) (omega arith) (λ _. refl))
@@ -212,43 +213,42 @@ puts first vs =
     (λ _. choice Puts (repeated vs) (λ _. fixed (refusedBy 25) (omega arith) (λ _. refl))
     (λ _. choice Puts (ltb payloadLimit (length (payloadOf first vs)))
     (λ _. fixed (refusedBy 3) (omega arith) (λ _. refl))
-    (λ _. one-buffer (told ofPayloadWritten) (length (payloadOf first vs)) (λ _. refl) (λ _. refl)))))
+    (λ _. one-buffer writtenRefusal _ _ (payloadOf first vs) refl refl))))
   where
     Puts : Objection → Type 0
-    Puts o = OneBuffer (λ out. told ofPayloadWritten (put o (payloadOf first vs) out))
+    Puts o = OneBuffer (λ out. told writtenRefusal (put o (payloadOf first vs) out))
 
 writes-payloads : (first : ℕ) (bytes numbers : List ℕ)
-    → OneBuffer (λ out. told ofPayloadWritten (writeInto first bytes numbers out))
+    → OneBuffer (λ out. told writtenRefusal (writeInto first bytes numbers out))
 unfolding writeInto
 writes-payloads first bytes numbers =
-    walked (told ofPayloadWritten) (isFirst first)
-    (walked (told ofPayloadWritten) (placed bytes numbers) (puts first (variablesHeld bytes numbers))
-    (fixed (refusedBy 27) (omega arith) (λ _. refl)))
-    (fixed (refusedBy 20) (omega arith) (λ _. refl))
+    walked (told writtenRefusal) (not (isFirst first)) (fixed (refusedBy 20) (omega arith) (λ _. refl))
+    (walked (told writtenRefusal) (not (placed bytes numbers)) (fixed (refusedBy 27) (omega arith) (λ _. refl))
+    (puts first (variablesHeld bytes numbers)))
 
-makes : (m : Making) → OneBuffer (λ out. told ofMade (makeInto m out))
-unfolding makeInto writeFront
+makes : (m : Making) → OneBuffer (λ out. told writtenRefusal (makeInto m out))
+unfolding makeInto
 makes m =
-    walked (told ofMade) (not (isName profileLimit (m .name))) (fixed (refusedBy 33) (omega arith) (λ _. refl))
-    (walked (told ofMade) (not (isPassword (m .password))) (fixed (refusedBy 34) (omega arith) (λ _. refl))
-    (one-buffer (told ofMade) (length (recordBytes (madeProfile m))) (λ _. refl) (λ _. refl)))
+    walked (told writtenRefusal) (not (isName profileLimit (m .name))) (fixed (refusedBy 33) (omega arith) (λ _. refl))
+    (walked (told writtenRefusal) (not (isPassword (m .password))) (fixed (refusedBy 34) (omega arith) (λ _. refl))
+    (one-buffer writtenRefusal _ _ (recordBytes (madeProfile m)) refl refl))
 
 responds : (fault : Bool) (v : Verdict) (system device : List ℕ)
-    → OneBuffer (λ out. told ofResponse (respondInto fault v system device out))
-unfolding respondInto writeFront
+    → OneBuffer (λ out. told writtenRefusal (respondInto fault v system device out))
+unfolding respondInto
 responds fault v system device =
-    walked (told ofResponse) (not (isName deviceLimit device)) (fixed (refusedBy 36) (omega arith) (λ _. refl))
-    (walked (told ofResponse) (not (isName systemLimit system)) (fixed (refusedBy 36) (omega arith) (λ _. refl))
-    (one-buffer (told ofResponse) (length (responseOf fault v system device)) (λ _. refl) (λ _. refl)))
+    walked (told writtenRefusal) (not (isName deviceLimit device)) (fixed (refusedBy 36) (omega arith) (λ _. refl))
+    (walked (told writtenRefusal) (not (isName systemLimit system)) (fixed (refusedBy 36) (omega arith) (λ _. refl))
+    (one-buffer writtenRefusal _ _ (responseOf fault v system device) refl refl))
 
 abbrev completion : Completed → Refusal
-completion c = ofCompletion (c .completion)
+completion c = completionRefusal (c .completion)
 
 completes : (l : Ledger) → OneBuffer (λ out. told completion (completeInto l out))
 unfolding completeInto
 completes l =
     walked (told completion) (not (l .held)) (fixed (refusedBy 51) (omega arith) (λ _. refl))
-    (one-buffer (told completion) (length printComplete) (λ _. refl) (λ _. refl))
+    (one-buffer completion _ _ printComplete refl refl)
 
 pub four-last : FourLast
 four-last = record {

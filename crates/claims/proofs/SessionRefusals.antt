@@ -9,13 +9,14 @@ use lib.ListN.{drop}
 use borrow.Author.Tests.{eqb-true, eqb-false}
 use Rattle.octets.specs.Lent.{Outcome}
 use Rattle.refusal.specs.Refusal.{offAnsweredByOn}
+use Rattle.refusal.specs.RefusedBy.{Refusal, noRefusal, refusedBy, byNumber}
 use Rattle.telnet.specs.declared.Verb.{Verb}
 use Rattle.telnet.proofs.Refusals.{front-by}
 use Rattle.option_rules.specs.declared.Command.{Command}
 use Rattle.option_rules.specs.declared.Side.{Side}
-use Rattle.option_sides.specs.declared.Whose.{Whose}
+use Rattle.option_verbs.specs.declared.Whose.{Whose}
 use Rattle.option_sides.specs.declared.Sides.{Sides}
-use Rattle.option_sides.specs.Verbs.{toldBy}
+use Rattle.option_verbs.specs.Verbs.{toldBy}
 use Rattle.option_sides.specs.Session.{sideAt, withSide, received, requested}
 use Rattle.option_sides.proofs.Setting.{own-side}
 use Rattle.option_line.specs.declared.Sent.{Sent}
@@ -23,7 +24,7 @@ use Rattle.option_line.specs.Line.{receivedOn, requestedOn, heardOn}
 use Rattle.option_line.specs.Theorems.{Kept}
 use Rattle.option_line.proofs.Telling.{number-by, request-tells-all, receipt-tells-all}
 use Rattle.option_line.proofs.Hearing.{heard-number, hear-tells}
-use Rattle.claims.specs.Refusals.{Refusal, noRefusal, refusedBy, oneOf, Refuses, byNumber, byReceipt}
+use Rattle.claims.specs.Refusals.{oneOf, Refuses, byReceipt}
 use Rattle.claims.specs.Demand1.{line, RefusesBy, RefusesOnLine}
 use Rattle.claims.proofs.OneOf.{of-none, more, wider, numbers-of}
 use Rattle.claims.proofs.LineRefusals.{receives, requests}

@@ -1,33 +1,36 @@
 -- Profile tables, the token maker, verdicts, response records, frames and the ledger: they refuse by their own numbers,
 -- and leave all as it was. Assumes nothing.
-use mathlib.Core.Path.{_≡_, refl}
-use mathlib.Core.Bool.{Bool, true, false, not, _||_}
+use mathlib.Core.Path.{refl}
+use mathlib.Core.Bool.{Bool, not, _||_}
 use mathlib.Core.List.{List, [], _∷_, _++_}
 use Prim.Native.Nat.{ℕ, zero, suc, _+_}
 use lib.Dec.{T, eqb, ltb}
 use lib.ListN.{length, drop}
-use Rattle.octets.specs.Choice.{if_then_else_}
-use Rattle.octets.specs.Lent.{Outcome, outcome, overwrite}
-use Rattle.octets.specs.Promise.{writeFront}
+use Rattle.octets.specs.Lent.{Outcome}
 use Rattle.octets.specs.Same.{same}
 use Rattle.octets.proofs.Choice.{choice}
+use Rattle.octets.proofs.Promise.{front-either}
 use Rattle.refusal.specs.Refusal.{badProfileName, badPassword, inboundFrame}
+use Rattle.refusal.specs.RefusedBy.{byNumber}
+use Rattle.refusal.specs.Written.{writtenRefusal}
 use Rattle.names.specs.Name.{isName, profileLimit, deviceLimit, systemLimit}
 use Rattle.names.specs.Order.{precedes}
 use Rattle.env.specs.Read.{Reading, says, notRead, readingOf}
 use Rattle.profile.specs.Profile.{Shape, shapeOf, Profile, recordLength, recordBytes}
 use Rattle.profile.specs.Table.{nameAt, nameLengthAt, profileAt, isRecord, isVersion, profileCount, TableReading, profiles, tableRefused, addProfile, unlessEnd, profilesFrom, tableOf}
-use Rattle.profile_table.specs.Answer.{entry, checked, foundFrom, foundIn}
+use Rattle.profile_table.specs.Answer.{checked, foundFrom, foundIn}
+use Rattle.profile_table.specs.Refusals.{checkRefusal, lookupRefusal}
 use Rattle.profile_maker.specs.Made.{Making, madeProfile}
 use Rattle.profile_maker.specs.Promise.{makeInto}
 use Rattle.password_des.specs.declared.Block.{Block}
-use Rattle.password_des.specs.Answer.{desPasswordLimit, desToken, desSubstitute}
+use Rattle.password_des.specs.Answer.{desPasswordLimit, desToken, desSubstitute, blockRefusal}
 use Rattle.password_sha.specs.declared.Hash.{Hash}
 use Rattle.password_sha.specs.Sha.{isPassword}
 use Rattle.password_sha.specs.Answer.{noHash, shaToken, shaSubstitute}
 use Rattle.password_check.specs.Gives.{seedLength}
 use Rattle.signon.specs.declared.Verdict.{Verdict}
 use Rattle.signon.specs.Verdict.{answerBy, answerOf}
+use Rattle.signon.specs.Refusals.{verdictRefusal}
 use Rattle.startup.specs.Response.{responseOf}
 use Rattle.startup_record.specs.Promise.{respondInto}
 use Rattle.print_frame.specs.declared.Direction.{Direction}
@@ -37,15 +40,16 @@ use Rattle.print_frame.specs.declared.Operation.the-variants.{Print, Clear}
 use Rattle.print_frame.specs.declared.Frame.{Frame}
 use Rattle.print_frame.specs.declared.FrameAnswer.{FrameAnswer}
 use Rattle.print_frame.specs.declared.FrameAnswer.the-variants.{Read, Refused}
-use Rattle.print_frame.specs.Frame.{byte, identifier, dataFlow, structureLength, headerLength, dataPlace, isFlow, isReserved, isOperation, said, headerOf, frameOf}
+use Rattle.print_frame.specs.Frame.{byte, identifier, dataFlow, structureLength, headerLength, dataPlace, isFlow, isReserved, isOperation, headerOf, frameOf, frameRefusal}
 use Rattle.print_ledger.specs.declared.Ledger.{Ledger}
 use Rattle.print_ledger.specs.declared.Receipt.the-variants.{Refused as NotTaken}
 use Rattle.print_ledger.specs.declared.Taken.{Taken}
 use Rattle.print_ledger.specs.declared.Completed.{Completed}
-use Rattle.print_ledger.specs.Ledger.{afterFrame, printed, cleared, taken, answered, takeFrame, printComplete, completeInto}
-use Rattle.claims.specs.Refusals.{Refusal, refusedBy, oneOf, Refuses, byNumber, ofBlock, ofCheck, ofFound, ofMade, ofSignon, ofResponse, ofFrame, ofReceipt, ofCompletion}
+use Rattle.print_ledger.specs.Ledger.{afterFrame, printed, cleared, answered, takeFrame, printComplete, completeInto, receiptRefusal, completionRefusal}
+use Rattle.claims.specs.Refusals.{oneOf, Refuses}
 use Rattle.claims.specs.Demand1.{payload, frame, table, RefusesBy, RefusesInto}
 use Rattle.claims.proofs.OneOf.{more, after}
+use Rattle.claims.proofs.LineRefusals.{written-by}
 use Rattle.claims.proofs.PayloadRefusals.{ReadingBy, reading-by}
 
 -- what a table says
@@ -78,38 +82,38 @@ unfolding tableOf oneOf
 table-by [] = tt
 table-by (v ∷ bs) = choice TableBy (not (isVersion v)) (λ _. tt) (λ _. records-by (shapeOf v) profileCount [] bs)
 
-checked-by : (r : TableReading) → TableBy r → RefusesBy table (ofCheck (checked r))
+checked-by : (r : TableReading) → TableBy r → RefusesBy table (checkRefusal (checked r))
 unfolding checked
 checked-by (profiles ps) t = tt
 checked-by (tableRefused n) t = (t, refl)
 
-pub checks : (t : List ℕ) → RefusesBy table (ofCheck (checked (tableOf t)))
+pub checks : (t : List ℕ) → RefusesBy table (checkRefusal (checked (tableOf t)))
 checks t = checked-by (tableOf t) (table-by t)
 
-found-by : (at : ℕ) (name : List ℕ) (ps : List Profile) → RefusesBy table (ofFound (foundFrom at name ps))
+found-by : (at : ℕ) (name : List ℕ) (ps : List Profile) → RefusesBy table (lookupRefusal (foundFrom at name ps))
 unfolding foundFrom
 found-by at name [] = tt
 found-by at name (p ∷ ps) =
-    choice (λ f. RefusesBy table (ofFound f)) (same name (p .name)) (λ _. tt) (λ _. found-by (at + length (recordBytes p)) name ps)
+    choice (λ f. RefusesBy table (lookupRefusal f)) (same name (p .name)) (λ _. tt) (λ _. found-by (at + length (recordBytes p)) name ps)
 
-looked-by : (name : List ℕ) (r : TableReading) → TableBy r → RefusesBy table (ofFound (foundIn name r))
+looked-by : (name : List ℕ) (r : TableReading) → TableBy r → RefusesBy table (lookupRefusal (foundIn name r))
 unfolding foundIn
 looked-by name (profiles ps) t = found-by 1 name ps
 looked-by name (tableRefused n) t = (t, refl)
 
-pub finds : (t name : List ℕ) → RefusesBy table (ofFound (foundIn name (tableOf t)))
+pub finds : (t name : List ℕ) → RefusesBy table (lookupRefusal (foundIn name (tableOf t)))
 finds t name = looked-by name (tableOf t) (table-by t)
 
-pub makes : (m : Making) (out : List ℕ) → RefusesInto (33 ∷ 34 ∷ 4 ∷ []) ofMade out (makeInto m out)
-unfolding makeInto writeFront oneOf
+pub makes : (m : Making) (out : List ℕ) → RefusesInto (33 ∷ 34 ∷ 4 ∷ []) writtenRefusal out (makeInto m out)
+unfolding makeInto oneOf
 makes m out =
-    choice (RefusesInto (33 ∷ 34 ∷ 4 ∷ []) ofMade out) (not (isName profileLimit (m .name))) (λ _. (tt, refl))
-    (λ _. choice (RefusesInto (33 ∷ 34 ∷ 4 ∷ []) ofMade out) (not (isPassword (m .password))) (λ _. (tt, refl))
-    (λ _. choice (RefusesInto (33 ∷ 34 ∷ 4 ∷ []) ofMade out) (ltb (length out) (length (recordBytes (madeProfile m)))) (λ _. (tt, refl)) (λ _. tt)))
+    choice (RefusesInto (33 ∷ 34 ∷ 4 ∷ []) writtenRefusal out) (not (isName profileLimit (m .name))) (λ _. (tt, refl))
+    (λ _. choice (RefusesInto (33 ∷ 34 ∷ 4 ∷ []) writtenRefusal out) (not (isPassword (m .password))) (λ _. (tt, refl))
+    (λ _. written-by (33 ∷ 34 ∷ 4 ∷ []) tt (recordBytes (madeProfile m)) out))
 
 -- tokens and substitutes
 abbrev BlockBy : List ℕ → Block → Type 0
-BlockBy numbers b = RefusesBy numbers (ofBlock b)
+BlockBy numbers b = RefusesBy numbers (blockRefusal b)
 
 abbrev HashBy : List ℕ → Hash → Type 0
 HashBy numbers h = RefusesBy numbers (byNumber (h .refusal))
@@ -139,28 +143,28 @@ sha-substitutes token name server client =
     choice (HashBy (33 ∷ [])) (not (isName profileLimit name)) (λ _. name33) (λ _. tt)
 
 -- a verdict, by the table and the payload
-answered-by : (seed : List ℕ) (t : TableReading) (r : Reading) → TableBy t → ReadingBy r → RefusesBy (35 ∷ table ++ payload) (ofSignon (answerBy seed t r))
+answered-by : (seed : List ℕ) (t : TableReading) (r : Reading) → TableBy t → ReadingBy r → RefusesBy (35 ∷ table ++ payload) (verdictRefusal (answerBy seed t r))
 unfolding answerBy
 answered-by seed (tableRefused n) r t q = (more 35 (table ++ payload) n (after table payload n t), refl)
 answered-by seed (profiles ps) (notRead n) t q = (more 35 (table ++ payload) n (more 30 _ n (more 31 _ n (more 32 payload n q))), refl)
 answered-by seed (profiles ps) (says first vs) t q = tt
 
-pub judges : (seed t p : List ℕ) → RefusesBy (35 ∷ table ++ payload) (ofSignon (answerOf seed t p))
+pub judges : (seed t p : List ℕ) → RefusesBy (35 ∷ table ++ payload) (verdictRefusal (answerOf seed t p))
 unfolding answerOf oneOf
 judges seed t p =
-    choice (λ a. RefusesBy (35 ∷ table ++ payload) (ofSignon a)) (not (eqb (length seed) seedLength))
+    choice (λ a. RefusesBy (35 ∷ table ++ payload) (verdictRefusal a)) (not (eqb (length seed) seedLength))
     (λ _. (tt, refl)) (λ _. answered-by seed (tableOf t) (readingOf p) (table-by t) (reading-by p))
 
-pub responds : (fault : Bool) (v : Verdict) (system device out : List ℕ) → RefusesInto (36 ∷ 4 ∷ []) ofResponse out (respondInto fault v system device out)
-unfolding respondInto writeFront oneOf
+pub responds : (fault : Bool) (v : Verdict) (system device out : List ℕ) → RefusesInto (36 ∷ 4 ∷ []) writtenRefusal out (respondInto fault v system device out)
+unfolding respondInto oneOf
 responds fault v system device out =
-    choice (RefusesInto (36 ∷ 4 ∷ []) ofResponse out) (not (isName deviceLimit device)) (λ _. (tt, refl))
-    (λ _. choice (RefusesInto (36 ∷ 4 ∷ []) ofResponse out) (not (isName systemLimit system)) (λ _. (tt, refl))
-    (λ _. choice (RefusesInto (36 ∷ 4 ∷ []) ofResponse out) (ltb (length out) (length (responseOf fault v system device))) (λ _. (tt, refl)) (λ _. tt)))
+    choice (RefusesInto (36 ∷ 4 ∷ []) writtenRefusal out) (not (isName deviceLimit device)) (λ _. (tt, refl))
+    (λ _. choice (RefusesInto (36 ∷ 4 ∷ []) writtenRefusal out) (not (isName systemLimit system)) (λ _. (tt, refl))
+    (λ _. written-by (36 ∷ 4 ∷ []) tt (responseOf fault v system device) out))
 
 -- frames
 abbrev FrameBy : FrameAnswer → Type 0
-FrameBy a = RefusesBy frame (ofFrame a)
+FrameBy a = RefusesBy frame (frameRefusal a)
 
 pub reads-frames : (f : List ℕ) → FrameBy (frameOf f)
 unfolding frameOf headerOf oneOf
@@ -174,7 +178,7 @@ reads-frames f =
 
 -- the ledger
 abbrev TakenBy : Ledger → Taken → Type 0
-TakenBy l t = Refuses (52 ∷ 50 ∷ frame) l (t .ledger) (ofReceipt (t .receipt))
+TakenBy l t = Refuses (52 ∷ 50 ∷ frame) l (t .ledger) (receiptRefusal (t .receipt))
 
 -- by what a frame asks
 by-direction : (l : Ledger) (f : Frame) (d : Direction) (o : Operation) → TakenBy l (elim d [
@@ -196,10 +200,10 @@ unfolding takeFrame
 takes l f = taken-by l (frameOf f) (reads-frames f)
 
 abbrev CompletedBy : Ledger → List ℕ → Outcome Completed → Type 0
-CompletedBy l out o = Refuses (51 ∷ 4 ∷ []) {L = Ledger × List ℕ} (l, out) (o .answer .ledger, o .lent) (ofCompletion (o .answer .completion))
+CompletedBy l out o = Refuses (51 ∷ 4 ∷ []) {L = Ledger × List ℕ} (l, out) (o .answer .ledger, o .lent) (completionRefusal (o .answer .completion))
 
 pub completes : (l : Ledger) (out : List ℕ) → CompletedBy l out (completeInto l out)
 unfolding completeInto oneOf
 completes l out =
     choice (CompletedBy l out) (not (l .held)) (λ _. (tt, refl))
-    (λ _. choice (CompletedBy l out) (ltb (length out) (length printComplete)) (λ _. (tt, refl)) (λ _. tt))
+    (λ _. front-either _ _ printComplete out (CompletedBy l out) (λ _. (tt, refl)) (λ _. tt))

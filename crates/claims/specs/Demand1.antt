@@ -7,45 +7,47 @@
 --
 -- An entry point is a public function that can refuse. The others answer every input, and so have nothing to say here:
 -- tests answer true or false (`option_rules::carried`, `names::is_name`, `password_check::gives_des` and their like);
--- `env_records::find` and `value_of` and `profile_tokens` answer absent, an empty part or zeros for what is not there;
+-- `env_search::find` and `value_of` and `profile_tokens` answer absent, an empty part or zeros for what is not there;
 -- `octets::put`, `octets_marked::put_marked` and `octets::put_decimal`, helpers of the core, answer false, or the place
 -- that they were given, where there is no room, and write nothing then.
 use Prim.Native.Nat.{ℕ}
 use mathlib.Core.Bool.{Bool}
 use mathlib.Core.List.{List, [], _∷_, _++_}
 use Rattle.octets.specs.Lent.{Outcome}
+use Rattle.refusal.specs.RefusedBy.{Refusal, byNumber}
+use Rattle.refusal.specs.Written.{writtenInto, writtenRefusal}
 use Rattle.telnet.specs.Event.{Event}
-use Rattle.telnet_reader.specs.Promise.{lookAt, readAt}
-use Rattle.telnet_records.specs.Promise.{recordAt}
+use Rattle.telnet_reader.specs.Promise.{lookAt, readAt, eventRefusal}
+use Rattle.telnet_records.specs.Promise.{recordAt, recordRefusal}
 use Rattle.telnet_writer.specs.Promise.{writeOf}
-use Rattle.telnet_line.specs.Promise.{putFront}
 use Rattle.option_rules.specs.declared.Command.{Command}
 use Rattle.option_rules.specs.declared.Side.{Side}
 use Rattle.option_rules.specs.Table.{rulesOf, onReceive, onRequest}
-use Rattle.option_sides.specs.declared.Whose.{Whose}
+use Rattle.option_verbs.specs.declared.Whose.{Whose}
 use Rattle.option_sides.specs.declared.Sides.{Sides}
 use Rattle.option_sides.specs.Session.{received, requested}
 use Rattle.option_line.specs.declared.Sent.{Sent}
 use Rattle.option_line.specs.Line.{receivedOn, requestedOn, heardOn}
 use Rattle.telnet.specs.declared.Verb.{Verb}
 use Rattle.env.specs.declared.VariableRecord.{VariableRecord}
-use Rattle.env_delivery.specs.Promise.{Delivery, readInto, readAfter, deliverRead, handOver}
+use Rattle.env_delivery.specs.Promise.{Delivery, readInto, readAfter, deliverRead, handOver, payloadRefusal}
 use Rattle.env_list.specs.Reading.{readRecords}
 use Rattle.env_writer.specs.Promise.{writeInto}
-use Rattle.print_frame.specs.Frame.{frameOf}
+use Rattle.print_frame.specs.Frame.{frameOf, frameRefusal}
 use Rattle.print_ledger.specs.declared.Ledger.{Ledger}
-use Rattle.print_ledger.specs.Ledger.{takeFrame, completeInto}
+use Rattle.print_ledger.specs.Ledger.{takeFrame, completeInto, receiptRefusal, completionRefusal}
 use Rattle.profile.specs.Table.{tableOf}
 use Rattle.profile_table.specs.Answer.{checked, foundIn}
-use Rattle.password_des.specs.Answer.{desToken, desSubstitute}
+use Rattle.profile_table.specs.Refusals.{checkRefusal, lookupRefusal}
+use Rattle.password_des.specs.Answer.{desToken, desSubstitute, blockRefusal}
 use Rattle.password_sha.specs.Answer.{shaToken, shaSubstitute}
 use Rattle.profile_maker.specs.Made.{Making}
 use Rattle.profile_maker.specs.Promise.{makeInto}
 use Rattle.signon.specs.declared.Verdict.{Verdict}
 use Rattle.signon.specs.Verdict.{answerOf}
+use Rattle.signon.specs.Refusals.{verdictRefusal}
 use Rattle.startup_record.specs.Promise.{respondInto}
-use Rattle.claims.specs.Refusals.{Refusal, Refuses, byNumber, byReceipt, ofEvent, ofRecord, ofEventWritten, ofListed, ofPayload, ofPayloadWritten, ofFrame, ofReceipt, ofCompletion}
-use Rattle.claims.specs.Refusals.{ofBlock, ofCheck, ofFound, ofMade, ofSignon, ofResponse}
+use Rattle.claims.specs.Refusals.{Refuses, byReceipt}
 
 -- the numbers of "Refusal numbers", by subject: those of the line, of a payload, of a frame, of a table
 abbrev pub line : List ℕ
@@ -70,7 +72,7 @@ RefusesInto numbers of out o = Refuses numbers out (o .lent) (of (o .answer))
 
 -- a payload that is read: with buffer and list as they were
 abbrev pub RefusesBoth : List ℕ → (bytes numbers : List ℕ) → Delivery → Type 0
-RefusesBoth numbers bytes list d = Refuses numbers {L = List ℕ × List ℕ} (bytes, list) (d .bytes, d .numbers) (ofPayload (d .answer))
+RefusesBoth numbers bytes list d = Refuses numbers {L = List ℕ × List ℕ} (bytes, list) (d .bytes, d .numbers) (payloadRefusal (d .answer))
 
 -- a step of the sides with its command: by one of these numbers, with sides, line and place as they were
 abbrev pub RefusesOnLine : List ℕ → (ℕ → Refusal) → Sides → (line : List ℕ) (at : ℕ) → Outcome Sent → Type 0
@@ -79,12 +81,12 @@ RefusesOnLine numbers by s l at o =
 
 pub record Demand1 : Type 0 where
   -- events and records of the line: `look`, `read`, `read_record`, `write`
-  pub look : (s : List ℕ) (at : ℕ) → RefusesBy (5 ∷ line) (ofEvent (lookAt s at))
-  pub read : (s : List ℕ) (at : ℕ) (out : List ℕ) → RefusesInto (5 ∷ 4 ∷ line) ofEvent out (readAt s at out)
-  pub readRecord : (s : List ℕ) (at : ℕ) (out : List ℕ) → RefusesInto (5 ∷ 4 ∷ line) ofRecord out (recordAt s at out)
-  pub write : (e : Event) (out : List ℕ) → RefusesInto (7 ∷ 3 ∷ 4 ∷ []) ofEventWritten out (writeOf e out)
+  pub look : (s : List ℕ) (at : ℕ) → RefusesBy (5 ∷ line) (eventRefusal (lookAt s at))
+  pub read : (s : List ℕ) (at : ℕ) (out : List ℕ) → RefusesInto (5 ∷ 4 ∷ line) eventRefusal out (readAt s at out)
+  pub readRecord : (s : List ℕ) (at : ℕ) (out : List ℕ) → RefusesInto (5 ∷ 4 ∷ line) recordRefusal out (recordAt s at out)
+  pub write : (e : Event) (out : List ℕ) → RefusesInto (7 ∷ 3 ∷ 4 ∷ []) writtenRefusal out (writeOf e out)
   -- the listing of a stream, or one line of it: `list`, `line`
-  pub list : (words out : List ℕ) → RefusesInto (4 ∷ []) ofListed out (putFront words out)
+  pub list : (words out : List ℕ) → RefusesInto (4 ∷ []) writtenRefusal out (writtenInto words out)
   -- one side of an option: a receipt refuses nothing, a request hands the state back
   pub receive : (o : ℕ) (s : Side) (accept : Bool) (c : Command) → Refuses [] s (onReceive (rulesOf o) s accept c .side) (byReceipt (onReceive (rulesOf o) s accept c .number))
   pub request : (o : ℕ) (s : Side) (c : Command) → Refuses (10 ∷ 11 ∷ 12 ∷ 13 ∷ []) s (onRequest (rulesOf o) s c .side) (byNumber (onRequest (rulesOf o) s c .number))
@@ -104,26 +106,26 @@ pub record Demand1 : Type 0 where
   -- `env_variables::read_variables`, `env_delivery::deliver`, `env_delivery::hand_over`
   pub readPayload : (p bytes numbers : List ℕ) → RefusesBoth (4 ∷ payload) bytes numbers (readInto p bytes numbers)
   pub readRecords : (p bytes : List ℕ) (list : List VariableRecord)
-      → Refuses (4 ∷ payload) {L = List ℕ × List VariableRecord} (bytes, list) (readRecords p bytes list .answer .lent, readRecords p bytes list .records) (ofPayload (readRecords p bytes list .answer .answer))
+      → Refuses (4 ∷ payload) {L = List ℕ × List VariableRecord} (bytes, list) (readRecords p bytes list .answer .lent, readRecords p bytes list .records) (payloadRefusal (readRecords p bytes list .answer .answer))
   pub writePayload : (first : ℕ) (bytes numbers out : List ℕ)
-      → RefusesInto (20 ∷ 27 ∷ 21 ∷ 24 ∷ 25 ∷ 3 ∷ 4 ∷ []) ofPayloadWritten out (writeInto first bytes numbers out)
+      → RefusesInto (20 ∷ 27 ∷ 21 ∷ 24 ∷ 25 ∷ 3 ∷ 4 ∷ []) writtenRefusal out (writeInto first bytes numbers out)
   pub readVariables : (first : ℕ) (rest bytes numbers : List ℕ) → RefusesBoth (4 ∷ payload) bytes numbers (readAfter first rest bytes numbers)
   pub deliver : (first : ℕ) (texts records bytes numbers : List ℕ) → RefusesBoth (25 ∷ 4 ∷ []) bytes numbers (deliverRead first texts records bytes numbers)
   pub handOver : (first : ℕ) (texts records bytes numbers : List ℕ) → RefusesBoth (4 ∷ []) bytes numbers (handOver first texts records bytes numbers)
   -- profile tables: `check`, `find`, `make_record`
-  pub check : (t : List ℕ) → RefusesBy table (ofCheck (checked (tableOf t)))
-  pub find : (t name : List ℕ) → RefusesBy table (ofFound (foundIn name (tableOf t)))
-  pub make : (m : Making) (out : List ℕ) → RefusesInto (33 ∷ 34 ∷ 4 ∷ []) ofMade out (makeInto m out)
+  pub check : (t : List ℕ) → RefusesBy table (checkRefusal (checked (tableOf t)))
+  pub find : (t name : List ℕ) → RefusesBy table (lookupRefusal (foundIn name (tableOf t)))
+  pub make : (m : Making) (out : List ℕ) → RefusesInto (33 ∷ 34 ∷ 4 ∷ []) writtenRefusal out (makeInto m out)
   -- tokens and substitutes: `des_token`, `sha_token`, `des_substitute`, `sha_substitute`
-  pub desToken : (name password : List ℕ) → RefusesBy (33 ∷ 34 ∷ []) (ofBlock (desToken name password))
+  pub desToken : (name password : List ℕ) → RefusesBy (33 ∷ 34 ∷ []) (blockRefusal (desToken name password))
   pub shaToken : (name password : List ℕ) → RefusesBy (33 ∷ 34 ∷ []) (byNumber (shaToken name password .refusal))
-  pub desSubstitute : (token : ℕ) (name : List ℕ) (server client : ℕ) → RefusesBy (33 ∷ []) (ofBlock (desSubstitute token name server client))
+  pub desSubstitute : (token : ℕ) (name : List ℕ) (server client : ℕ) → RefusesBy (33 ∷ []) (blockRefusal (desSubstitute token name server client))
   pub shaSubstitute : (token name : List ℕ) (server client : ℕ) → RefusesBy (33 ∷ []) (byNumber (shaSubstitute token name server client .refusal))
   -- sign-on and start-up: `verdict`, `response`
-  pub verdict : (seed t p : List ℕ) → RefusesBy (35 ∷ table ++ payload) (ofSignon (answerOf seed t p))
-  pub response : (fault : Bool) (v : Verdict) (system device out : List ℕ) → RefusesInto (36 ∷ 4 ∷ []) ofResponse out (respondInto fault v system device out)
+  pub verdict : (seed t p : List ℕ) → RefusesBy (35 ∷ table ++ payload) (verdictRefusal (answerOf seed t p))
+  pub response : (fault : Bool) (v : Verdict) (system device out : List ℕ) → RefusesInto (36 ∷ 4 ∷ []) writtenRefusal out (respondInto fault v system device out)
   -- printing: `read_frame`, `take_frame`, `complete`; a refused frame or completion leaves the ledger as it was
-  pub readFrame : (f : List ℕ) → RefusesBy frame (ofFrame (frameOf f))
-  pub takeFrame : (l : Ledger) (f : List ℕ) → Refuses (52 ∷ 50 ∷ frame) l (takeFrame l f .ledger) (ofReceipt (takeFrame l f .receipt))
+  pub readFrame : (f : List ℕ) → RefusesBy frame (frameRefusal (frameOf f))
+  pub takeFrame : (l : Ledger) (f : List ℕ) → Refuses (52 ∷ 50 ∷ frame) l (takeFrame l f .ledger) (receiptRefusal (takeFrame l f .receipt))
   pub complete : (l : Ledger) (out : List ℕ)
-      → Refuses (51 ∷ 4 ∷ []) {L = Ledger × List ℕ} (l, out) (completeInto l out .answer .ledger, completeInto l out .lent) (ofCompletion (completeInto l out .answer .completion))
+      → Refuses (51 ∷ 4 ∷ []) {L = Ledger × List ℕ} (l, out) (completeInto l out .answer .ledger, completeInto l out .lent) (completionRefusal (completeInto l out .answer .completion))

@@ -8,9 +8,10 @@ use mathlib.Core.Bool.{Bool}
 use mathlib.Core.List.{List, [], _∷_, _++_}
 use mathlib.Core.Logic.{_⊎_}
 use Rattle.octets.specs.Lent.{Outcome}
+use Rattle.refusal.specs.RefusedBy.{Refusal, byNumber}
+use Rattle.refusal.specs.Written.{writtenInto}
 use Rattle.telnet_reader.specs.Promise.{lookAt, readAt}
 use Rattle.telnet_records.specs.Promise.{recordAt}
-use Rattle.telnet_line.specs.Promise.{putFront}
 use Rattle.option_sides.specs.Session.{requested}
 use Rattle.option_line.specs.Line.{requestedOn, heardOn}
 use Rattle.env_delivery.specs.Promise.{readInto}
@@ -26,21 +27,19 @@ use Rattle.startup_record.specs.Promise.{respondInto}
 use Rattle.print_frame.specs.Frame.{frameOf}
 use Rattle.print_ledger.specs.Ledger.{takeFrame, completeInto}
 use Rattle.export.specs.declared.TvWritten.{TvWritten}
-use Rattle.export.specs.Numbers.{numbered, verbNamed, kindNamed, NoCode}
+use Rattle.export.specs.Numbers.{numbered, writtenNumbers, verbNamed, kindNamed, NoCode}
 use Rattle.export_telnet.specs.Numbers as Telnet
 use Rattle.export_option.specs.declared.TvSides.{TvSides}
 use Rattle.export_option.specs.declared.TvAnswered.{TvAnswered}
 use Rattle.export_option.specs.declared.TvSent.{TvSent}
 use Rattle.export_option.specs.Numbers.{sidesNamed, whoseNamed, commandNamed, receiveNamed, receiveOnNamed, answeredNumbers, sentNumbers}
 use Rattle.export_env.specs.Numbers as Env
-use Rattle.export_listing.specs.Numbers.{listedNumbers}
-use Rattle.export_profile.specs.Numbers.{tableNumbers, foundNumbers, madeNumbers}
+use Rattle.export_profile.specs.Numbers.{tableNumbers, foundNumbers}
 use Rattle.export_password.specs.Numbers.{blockNumbers, hashInto, substituteInto}
-use Rattle.export_signon.specs.Numbers as Signon
 use Rattle.export_signon.specs.Numbers.{verdictNamed, answerNumbers}
 use Rattle.export_print.specs.declared.TvLedger.{TvLedger}
 use Rattle.export_print.specs.Numbers.{frameNumbers, ledgerNamed, takenNumbers, completedNumbers}
-use Rattle.claims.specs.Refusals.{Refusal, Refuses, byNumber, byReceipt}
+use Rattle.claims.specs.Refusals.{Refuses, byReceipt}
 use Rattle.claims.specs.Demand1.{line, payload, frame, table, RefusesBy}
 
 -- a call that writes to the front of a buffer: by one of these numbers, with the buffer as it was
@@ -48,13 +47,13 @@ abbrev pub Writes : List ℕ → (out : List ℕ) → Outcome TvWritten → Type
 Writes numbers out o = Refuses numbers out (o .lent) (byNumber (o .answer .refusal))
 
 -- a step of the sides: with the sides as they were given
-abbrev pub Steps : List ℕ → (given : TvSides) → TvAnswered → Type 0
-Steps numbers given a = Refuses numbers given (a .sides) (byReceipt (a .number))
+abbrev pub Steps : List ℕ → (ℕ → Refusal) → (given : TvSides) → TvAnswered → Type 0
+Steps numbers by given a = Refuses numbers given (a .sides) (by (a .number))
 
 -- and with its command on a line: with sides, line and place as they were given
-abbrev pub StepsOnLine : List ℕ → (given : TvSides) (line : List ℕ) (at : ℕ) → Outcome TvSent → Type 0
-StepsOnLine numbers given line at o =
-    Refuses numbers {L = TvSides × (List ℕ × ℕ)} (given, (line, at)) (o .answer .sides, (o .lent, o .answer .place)) (byReceipt (o .answer .number))
+abbrev pub StepsOnLine : List ℕ → (ℕ → Refusal) → (given : TvSides) (line : List ℕ) (at : ℕ) → Outcome TvSent → Type 0
+StepsOnLine numbers by given line at o =
+    Refuses numbers {L = TvSides × (List ℕ × ℕ)} (given, (line, at)) (o .answer .sides, (o .lent, o .answer .place)) (by (o .answer .number))
 
 abbrev pub request : List ℕ
 request = 10 ∷ 11 ∷ 12 ∷ 13 ∷ []
@@ -67,21 +66,21 @@ pub record Demand1C : Type 0 where
   pub readRecord : (s : List ℕ) (at : ℕ) (out : List ℕ)
       → let o = numbered Telnet.recordNumbers (recordAt s at out) in Refuses (5 ∷ 4 ∷ line) out (o .lent) (byNumber (o .answer .refusal))
   pub write : (what code option : ℕ) (payload out : List ℕ)
-      → Writes (7 ∷ 3 ∷ 4 ∷ []) out (numbered Telnet.writtenNumbers (Telnet.writeNamed (kindNamed what code option) payload out))
+      → Writes (7 ∷ 3 ∷ 4 ∷ []) out (numbered writtenNumbers (Telnet.writeNamed (kindNamed what code option) payload out))
   -- and 7 where the numbers name no event
   pub writeNothing : (what code option : ℕ) (payload out : List ℕ) → ((what < 1) ⊎ (4 < what)) ⊎ ((what ≡ 3) × NoCode code)
-      → numbered Telnet.writtenNumbers (Telnet.writeNamed (kindNamed what code option) payload out) .answer .refusal ≡ 7
+      → numbered writtenNumbers (Telnet.writeNamed (kindNamed what code option) payload out) .answer .refusal ≡ 7
   -- tv_sides_receive, tv_sides_request
-  pub sidesReceive : (s : TvSides) (code option : ℕ) (accept : Bool) → Steps (6 ∷ []) s (receiveNamed s (verbNamed code) option accept)
+  pub sidesReceive : (s : TvSides) (code option : ℕ) (accept : Bool) → Steps (6 ∷ []) byReceipt s (receiveNamed s (verbNamed code) option accept)
   pub sidesRequest : (s : TvSides) (ours : Bool) (option : ℕ) (on : Bool)
-      → Steps request s (answeredNumbers s (requested (sidesNamed s) (whoseNamed ours) option (commandNamed on)))
+      → Steps request byNumber s (answeredNumbers s (requested (sidesNamed s) (whoseNamed ours) option (commandNamed on)))
   -- tv_option_receive, tv_option_request, tv_option_hear
   pub optionReceive : (s : TvSides) (code option : ℕ) (accept : Bool) (l : List ℕ) (at : ℕ)
-      → StepsOnLine (5 ∷ 4 ∷ 6 ∷ []) s l at (receiveOnNamed s (verbNamed code) option accept l at)
+      → StepsOnLine (5 ∷ 4 ∷ 6 ∷ []) byReceipt s l at (receiveOnNamed s (verbNamed code) option accept l at)
   pub optionRequest : (s : TvSides) (ours : Bool) (option : ℕ) (on : Bool) (l : List ℕ) (at : ℕ)
-      → StepsOnLine (5 ∷ 4 ∷ request) s l at (numbered (sentNumbers s) (requestedOn (sidesNamed s) (whoseNamed ours) option (commandNamed on) l at))
+      → StepsOnLine (5 ∷ 4 ∷ request) byNumber s l at (numbered (sentNumbers s) (requestedOn (sidesNamed s) (whoseNamed ours) option (commandNamed on) l at))
   pub optionHear : (s : TvSides) (heard : List ℕ) (from : ℕ) (accept : Bool) (l : List ℕ) (at : ℕ)
-      → StepsOnLine (5 ∷ 4 ∷ line) s l at (numbered (sentNumbers s) (heardOn (sidesNamed s) heard from accept l at))
+      → StepsOnLine (5 ∷ 4 ∷ line) byReceipt s l at (numbered (sentNumbers s) (heardOn (sidesNamed s) heard from accept l at))
   -- and 6 where the code is no option command
   pub receiveNothing : (s : TvSides) (code option : ℕ) (accept : Bool) → NoCode code → receiveNamed s (verbNamed code) option accept .number ≡ 6
   -- tv_env_read, tv_env_write
@@ -89,13 +88,13 @@ pub record Demand1C : Type 0 where
       → let r = Env.readNumbers (readInto p bytes numbers) in
       Refuses (4 ∷ payload) {L = List ℕ × List ℕ} (bytes, numbers) (r .bytes, r .numbers) (byNumber (r .answer .refusal))
   pub envWrite : (first : ℕ) (bytes numbers out : List ℕ)
-      → Writes (20 ∷ 27 ∷ 21 ∷ 24 ∷ 25 ∷ 3 ∷ 4 ∷ []) out (numbered Env.writtenNumbers (writeInto first bytes numbers out))
+      → Writes (20 ∷ 27 ∷ 21 ∷ 24 ∷ 25 ∷ 3 ∷ 4 ∷ []) out (numbered writtenNumbers (writeInto first bytes numbers out))
   -- tv_line, tv_list
-  pub list : (words out : List ℕ) → Writes (4 ∷ []) out (numbered listedNumbers (putFront words out))
+  pub list : (words out : List ℕ) → Writes (4 ∷ []) out (numbered writtenNumbers (writtenInto words out))
   -- tv_table_check, tv_table_find, tv_make_record
   pub tableCheck : (t : List ℕ) → RefusesBy table (byNumber (tableNumbers (checked (tableOf t)) .refusal))
   pub tableFind : (t name : List ℕ) → RefusesBy table (byNumber (foundNumbers (foundIn name (tableOf t)) .refusal))
-  pub makeRecord : (m : Making) (out : List ℕ) → Writes (33 ∷ 34 ∷ 4 ∷ []) out (numbered madeNumbers (makeInto m out))
+  pub makeRecord : (m : Making) (out : List ℕ) → Writes (33 ∷ 34 ∷ 4 ∷ []) out (numbered writtenNumbers (makeInto m out))
   -- tv_des_token, tv_des_substitute, tv_sha_token, tv_sha_substitute
   pub desToken : (name password : List ℕ) → RefusesBy (33 ∷ 34 ∷ []) (byNumber (blockNumbers (desToken name password) .refusal))
   pub desSubstitute : (token : ℕ) (name : List ℕ) (server client : ℕ)
@@ -105,7 +104,7 @@ pub record Demand1C : Type 0 where
   -- tv_verdict, tv_response
   pub verdict : (seed t p : List ℕ) → RefusesBy (35 ∷ table ++ payload) (byNumber (answerNumbers (answerOf seed t p) .refusal))
   pub response : (fault : Bool) (verdict : ℕ) (system device out : List ℕ)
-      → Writes (36 ∷ 4 ∷ []) out (numbered Signon.writtenNumbers (respondInto fault (verdictNamed verdict) system device out))
+      → Writes (36 ∷ 4 ∷ []) out (numbered writtenNumbers (respondInto fault (verdictNamed verdict) system device out))
   -- tv_read_frame, tv_ledger_take, tv_ledger_complete
   pub readFrame : (f : List ℕ) → RefusesBy frame (byNumber (frameNumbers (frameOf f) .refusal))
   pub ledgerTake : (ledger : TvLedger) (f : List ℕ)

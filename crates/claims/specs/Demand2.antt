@@ -6,7 +6,7 @@
 -- say; here is what holds above single functions. The order of refusals is `Orders.antt`; the table of the option rules
 -- is `option_rules/specs/Table.antt`, and two ends under it are `Demand3.antt`.
 use Rattle.telnet.specs.Theorems as Telnet
-use Rattle.option_sides.specs.Verbs.{HeardAsSaid}
+use Rattle.option_verbs.specs.Verbs.{HeardAsSaid}
 use Rattle.option_sides.specs.Session.{SetsOne}
 use Rattle.option_line.specs.Theorems.{RequestIsHeard, RequestTells, ReceiptTells, HearTells}
 use Rattle.env.specs.Theorems as Env

@@ -9,14 +9,13 @@ use Prim.Native.Nat.{ℕ, _<_, _^_}
 use lib.Dec.{T}
 use lib.ListN.{take}
 use Rattle.octets.specs.Bytes.{Bytes}
+use Rattle.refusal.specs.declared.Written.the-variants.{Wrote}
 use Rattle.words.specs.BigEndian.{bytes}
-use Rattle.names.specs.Name.{isName, profileLimit}
 use Rattle.env.specs.Variable.{Variable, VAR, USERVAR}
 use Rattle.env.specs.Read as Read
 use Rattle.profile.specs.Profile.{Profile, recordBytes}
 use Rattle.profile.specs.Table.{profiles, tableOf}
 use Rattle.profile.specs.Theorems.{Occurs}
-use Rattle.profile_maker.specs.declared.Made.the-variants.{Wrote}
 use Rattle.profile_maker.specs.Made.{making}
 use Rattle.profile_maker.specs.Promise.{makeInto}
 use Rattle.password_des.specs.declared.Block.the-variants.{Value}

@@ -8,17 +8,20 @@ use mathlib.Core.Logic.{_↔_, _⊎_}
 use Prim.Native.Nat.{ℕ, _≤_, _<_}
 use lib.Dec.{T}
 use lib.ListN.{length}
+use Rattle.refusal.specs.declared.Written.the-variants.{Refused as NotWritten}
+use Rattle.refusal.specs.RefusedBy.{Refusal, noRefusal, refusedBy}
+use Rattle.refusal.specs.Written.{writtenRefusal}
 use Rattle.names.specs.Name.{isName}
 use Rattle.telnet.specs.declared.Verb.{Verb}
 use Rattle.telnet.specs.Event.{Event}
 use Rattle.telnet.specs.Theorems as Telnet
 use Rattle.telnet_reader.specs.declared.Answer.the-variants.{Refused as EventRefused}
-use Rattle.telnet_reader.specs.Promise.{lookAt, readAt}
+use Rattle.telnet_reader.specs.Promise.{lookAt, readAt, eventRefusal}
 use Rattle.telnet_records.specs.declared.Record.the-variants.{Refused as RecordRefused}
-use Rattle.telnet_records.specs.Promise.{recordAt}
+use Rattle.telnet_records.specs.Promise.{recordAt, recordRefusal}
 use Rattle.telnet_writer.specs.Promise.{writeOf}
 use Rattle.option_rules.specs.declared.Command.{Command}
-use Rattle.option_sides.specs.declared.Whose.{Whose}
+use Rattle.option_verbs.specs.declared.Whose.{Whose}
 use Rattle.option_sides.specs.declared.Sides.{Sides}
 use Rattle.option_line.specs.Line.{receivedOn, requestedOn, heardOn}
 use Rattle.option_line.specs.Theorems.{byRequest}
@@ -28,14 +31,12 @@ use Rattle.env.specs.Read as Read
 use Rattle.env.specs.Write.{payloadOf, nameless}
 use Rattle.env.specs.Numbers.{variablesHeld, placed}
 use Rattle.env.specs.Theorems as Env
-use Rattle.env_delivery.specs.Promise.{readInto}
+use Rattle.env_delivery.specs.Promise.{readInto, payloadRefusal}
 use Rattle.env_list.specs.Reading.{readRecords}
-use Rattle.env_writer.specs.declared.Written.the-variants.{Refused as PayloadNotWritten}
 use Rattle.env_writer.specs.Promise.{writeInto}
 use Rattle.profile.specs.Profile.{Profile}
 use Rattle.profile.specs.Table.{profiles, tableRefused, tableOf}
 use Rattle.profile.specs.Theorems.{FirstRecordDecides}
-use Rattle.profile_maker.specs.declared.Made.the-variants.{Refused as NotMade}
 use Rattle.profile_maker.specs.Made.{Making}
 use Rattle.profile_maker.specs.Promise.{makeInto}
 use Rattle.password_des.specs.declared.Block.the-variants.{Refused as NoBlock}
@@ -54,8 +55,8 @@ use Rattle.print_frame.specs.Frame.{frameOf}
 use Rattle.print_frame.specs.Theorems.{FrameIsItsSentence}
 use Rattle.print_ledger.specs.declared.Ledger.{Ledger}
 use Rattle.print_ledger.specs.declared.Receipt.the-variants.{Refused as NotTaken}
-use Rattle.print_ledger.specs.Ledger.{takeFrame, completeInto}
-use Rattle.claims.specs.Refusals.{Refusal, noRefusal, refusedBy, oneOf, ofEvent, ofRecord, ofEventWritten, ofPayload, ofPayloadWritten, ofMade, ofResponse, ofCompletion}
+use Rattle.print_ledger.specs.Ledger.{takeFrame, completeInto, completionRefusal}
+use Rattle.claims.specs.Refusals.{oneOf}
 
 -- "5 first": it is told exactly where a place is past the end, whatever else is there.
 pub record FiveFirst : Type 0 where
@@ -85,21 +86,21 @@ BufferAndList = Last (λ room l. (room ≤ length (l .0)) × (room ≤ length (l
 
 -- "4 last": 51, 33, 34, 36, 7, 10 to 13 and every fault of an event, a list, a record or a payload come before it.
 pub record FourLast : Type 0 where
-  pub read : (s : List ℕ) (at : ℕ) → OneBuffer (λ out. ofEvent (readAt s at out .answer))
-  pub readRecord : (s : List ℕ) (at : ℕ) → OneBuffer (λ out. ofRecord (recordAt s at out .answer))
-  pub write : (e : Event) → OneBuffer (λ out. ofEventWritten (writeOf e out .answer))
+  pub read : (s : List ℕ) (at : ℕ) → OneBuffer (λ out. eventRefusal (readAt s at out .answer))
+  pub readRecord : (s : List ℕ) (at : ℕ) → OneBuffer (λ out. recordRefusal (recordAt s at out .answer))
+  pub write : (e : Event) → OneBuffer (λ out. writtenRefusal (writeOf e out .answer))
   pub request : (s : Sides) (w : Whose) (o : ℕ) (c : Command) (line : List ℕ) (at n : ℕ) → at ≤ length line → T (oneOf (10 ∷ 11 ∷ 12 ∷ 13 ∷ []) n)
       → byRequest s w o c .number ≡ n → requestedOn s w o c line at .answer .number ≡ n
-  pub readPayload : (p : List ℕ) → BufferAndList (λ l. ofPayload (readInto p (l .0) (l .1) .answer))
-  pub readRecords : (p : List ℕ) → BufferAndList {A = VariableRecord} (λ l. ofPayload (readRecords p (l .0) (l .1) .answer .answer))
-  pub writePayload : (first : ℕ) (bytes numbers : List ℕ) → OneBuffer (λ out. ofPayloadWritten (writeInto first bytes numbers out .answer))
-  pub make : (m : Making) → OneBuffer (λ out. ofMade (makeInto m out .answer))
-  pub response : (fault : Bool) (v : Verdict) (system device : List ℕ) → OneBuffer (λ out. ofResponse (respondInto fault v system device out .answer))
-  pub complete : (l : Ledger) → OneBuffer (λ out. ofCompletion (completeInto l out .answer .completion))
+  pub readPayload : (p : List ℕ) → BufferAndList (λ l. payloadRefusal (readInto p (l .0) (l .1) .answer))
+  pub readRecords : (p : List ℕ) → BufferAndList {A = VariableRecord} (λ l. payloadRefusal (readRecords p (l .0) (l .1) .answer .answer))
+  pub writePayload : (first : ℕ) (bytes numbers : List ℕ) → OneBuffer (λ out. writtenRefusal (writeInto first bytes numbers out .answer))
+  pub make : (m : Making) → OneBuffer (λ out. writtenRefusal (makeInto m out .answer))
+  pub response : (fault : Bool) (v : Verdict) (system device : List ℕ) → OneBuffer (λ out. writtenRefusal (respondInto fault v system device out .answer))
+  pub complete : (l : Ledger) → OneBuffer (λ out. completionRefusal (completeInto l out .answer .completion))
 
 -- the writer refuses by a number
 abbrev pub WriteRefuses : (first : ℕ) (bytes numbers out : List ℕ) (number : ℕ) → Type 0
-WriteRefuses first bytes numbers out number = writeInto first bytes numbers out .answer ≡ PayloadNotWritten number
+WriteRefuses first bytes numbers out number = writeInto first bytes numbers out .answer ≡ NotWritten number
 
 -- "its writer gives 20 (asked for a first byte other than 0 or 2), 27, 21, 24, 25, 3, each over the whole list before
 -- the next."
@@ -130,8 +131,8 @@ pub record VerdictOrder (seed table payload : List ℕ) : Type 0 where
 
 -- "Token maker: 33 before 34": whatever the password, and so for the tokens by themselves.
 pub record MakerOrder : Type 0 where
-  pub name : (m : Making) (out : List ℕ) → isName 10 (m .name) ≡ false → makeInto m out .answer ≡ NotMade 33
-  pub password : (m : Making) (out : List ℕ) → T (isName 10 (m .name)) → isPassword (m .password) ≡ false → makeInto m out .answer ≡ NotMade 34
+  pub name : (m : Making) (out : List ℕ) → isName 10 (m .name) ≡ false → makeInto m out .answer ≡ NotWritten 33
+  pub password : (m : Making) (out : List ℕ) → T (isName 10 (m .name)) → isPassword (m .password) ≡ false → makeInto m out .answer ≡ NotWritten 34
   pub desName : (name password : List ℕ) → isName 10 name ≡ false → desToken name password ≡ NoBlock 33
   pub desPassword : (name password : List ℕ) → T (isName 10 name) → isName 10 password ≡ false → desToken name password ≡ NoBlock 34
   pub shaName : (name password : List ℕ) → isName 10 name ≡ false → shaToken name password .refusal ≡ 33

@@ -3,7 +3,7 @@ use Rattle.octets.specs.Same.{SameIsEqual}
 use Rattle.words.specs.Padding.{FewestZeroBits}
 use Rattle.env.specs.Theorems.{IsBoth, AmongIsOccurs, RepeatedIsTwice}
 use Rattle.env.specs.Boundaries.{boundaries, AllRead}
-use Rattle.env_records.specs.Theorems.{FindsTheValue, AbsentWhereNone}
+use Rattle.env_search.specs.Theorems.{FindsTheValue, AbsentWhereNone}
 use Rattle.names.specs.Theorems.{OwnEbcdic, Apart, StrictAndTotal}
 use Rattle.des.specs.Theorems.{ParityIgnored, FinalUndoesInitial}
 use Rattle.telnet_listing.specs.Sample.{Sample}

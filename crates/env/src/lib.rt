@@ -1,6 +1,6 @@
 // Environment variables. This crate has what is right, and no function: start with `specs/Variable.antt`,
-// `specs/Fields.antt`, `specs/Read.antt` and `specs/Write.antt`. The code is in `env_records`, `env_text`,
-// `env_delivery`, `env_variables`, `env_reader`, `env_writer` and `env_list`.
+// `specs/Fields.antt`, `specs/Read.antt` and `specs/Write.antt`. The code is in `env_codes`, `env_records`,
+// `env_search`, `env_text`, `env_delivery`, `env_variables`, `env_reader`, `env_writer` and `env_list`.
 
 // The codes of a payload (RFC 1572): its first byte, the kinds of a variable, VALUE before a value, and ESC before a
 // byte from VAR to USERVAR in a name or a value.

@@ -12,6 +12,7 @@ use Rattle.env.specs.Read.{Reading, says, notRead, distinct, variablesOf, readi
 use Rattle.telnet.specs.Event.{payloadLimit}
 use Rattle.env.specs.Numbers.{recordWidth, packed, recorded, variablesHeld}
 use Rattle.refusal.specs.Refusal.{noRoom, payloadTooLong, repeatedVariable}
+use Rattle.refusal.specs.RefusedBy.{Refusal, noRefusal, refusedBy}
 use Rattle.octets.specs.Choice.{if_then_else_}
 use Rattle.octets.specs.Lent.{overwrite}
 
@@ -53,3 +54,8 @@ handOver first texts records bytes numbers =
 unfoldable pub deliverRead : ℕ → List ℕ → List ℕ → List ℕ → List ℕ → Delivery
 deliverRead first texts records bytes numbers =
     if repeated (variablesHeld texts records) then delivery (Refused repeatedVariable) bytes numbers else handOver first texts records bytes numbers
+
+-- the number that the reader refuses by
+abbrev pub payloadRefusal : Answer → Refusal
+payloadRefusal (Read first count used) = noRefusal
+payloadRefusal (Refused n) = refusedBy n

@@ -5,7 +5,7 @@ ghost use lib.ListN.{length};
 ghost use Rattle.env_delivery.specs.Promise.{delivery, handOver, deliverRead};
 ghost use Rattle.octets.specs.Lent.{overwrite};
 use env::RECORD_WIDTH;
-use env_records::repeats;
+use env_search::repeats;
 use octets::put;
 use refusal::NO_ROOM;
 use refusal::REPEATED_VARIABLE;

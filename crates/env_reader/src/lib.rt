@@ -4,8 +4,8 @@
 ghost use mathlib.Core.Path.{_≡_};
 ghost use Rattle.env_delivery.specs.Promise.{delivery, readInto};
 use env::PAYLOAD_LIMIT;
+use env_codes::is_first;
 use env_delivery::Answer;
-use env_records::is_first;
 use env_variables::read_variables;
 use refusal::NOT_IS_OR_INFO;
 use refusal::PAYLOAD_TOO_LONG;

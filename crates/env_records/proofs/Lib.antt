@@ -1,4 +1,3 @@
-pub mod Found
 pub mod Held
 pub mod Steps
 pub mod Stored

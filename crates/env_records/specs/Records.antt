@@ -1,13 +1,9 @@
 -- What the functions over a list of variable records answer.
 use Prim.Native.Nat.{ℕ}
-use mathlib.Core.List.{List, [], _∷_}
+use mathlib.Core.List.{List, []}
 use lib.ListN.{getD}
 use Rattle.env.specs.declared.VariableRecord.{VariableRecord}
-use Rattle.env_records.specs.declared.ValuePlace.{ValuePlace}
-use Rattle.env_records.specs.declared.ValuePlace.the-variants.{Absent, At}
-use Rattle.env.specs.Variable.{is}
-use Rattle.env.specs.Numbers.{recordIn, recordsOf, variableOf}
-use Rattle.octets.specs.Choice.{if_then_else_}
+use Rattle.env.specs.Numbers.{recordIn, recordsOf}
 
 -- the record of a place that a list does not have
 abbrev pub blank : VariableRecord
@@ -16,13 +12,3 @@ blank = recordIn []
 -- record i of those that numbers hold, from 0 on
 abbrev pub recordAt : List ℕ → ℕ → VariableRecord
 recordAt numbers i = getD (recordsOf numbers) i blank
-
--- where the value stands of the first variable of a kind and name, over a buffer
-unfoldable pub placeIn : ℕ → List ℕ → List ℕ → List VariableRecord → ValuePlace
-placeIn kind name bytes [] = Absent
-placeIn kind name bytes (r ∷ rs) =
-    if is kind name (variableOf bytes r) then At (r .«value_at») (r .«value_length») else placeIn kind name bytes rs
-
--- among the records that numbers hold
-unfoldable pub placeOf : ℕ → List ℕ → List ℕ → List ℕ → ValuePlace
-placeOf kind name bytes numbers = placeIn kind name bytes (recordsOf numbers)

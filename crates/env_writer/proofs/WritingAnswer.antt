@@ -1,12 +1,12 @@
 -- What `writeInto` answers, by the first of its tests that refuses. Assumes nothing.
-use mathlib.Core.Path.{_≡_, _∙_}
+use mathlib.Core.Path.{_≡_, sym, _∙_}
 use mathlib.Core.Bool.{true, false}
 use mathlib.Core.List.{List}
 use Prim.Native.Nat.{ℕ, _+_, _/_, min, _≤_, _<_}
 use native.Mathlib.Omega.{arith}
 use lib.ListN.{length, set, length-set}
 use borrow.Author.Tests.{lt-ltb, le-ltb}
-use Rattle.env_writer.specs.declared.Written.the-variants.{Wrote, Refused}
+use Rattle.refusal.specs.declared.Written.the-variants.{Wrote, Refused}
 use Rattle.env_writer.specs.Promise.{put, writeInto}
 use Rattle.env.specs.Variable.{isFirst, variableLimit, repeated}
 use Rattle.env.specs.Write.{none, against, nameless, objection, payloadOf, writtenVariables}
@@ -16,6 +16,7 @@ use Rattle.telnet.specs.Event.{payloadLimit}
 use Rattle.refusal.specs.Refusal.{payloadTooLong, noRoom, notIsOrInfo, noVariable, tooManyVariables, repeatedVariable, badVariableRecord}
 use Rattle.octets.specs.Lent.{outcome, overwrite}
 use Rattle.octets.proofs.Overwrite.{overwrite-cons}
+use Rattle.octets.proofs.Promise.{front-short, front-fits}
 
 module _ (first : ℕ) (bytes l out : List ℕ) where
   pub not-first : isFirst first ≡ false → outcome (Refused notIsOrInfo) out ≡ writeInto first bytes l out
@@ -68,7 +69,8 @@ module _ (first : ℕ) (bytes l out : List ℕ) (e : isFirst first ≡ true) (p 
 
   pub no-space : k ≤ payloadLimit → length out < k → outcome (Refused noRoom) out ≡ writeInto first bytes l out
   unfolding writeInto put
-  no-space h g = rw (e, p, fine h, lt-ltb (length out) (length (payloadOf first (variablesHeld bytes l))) (omega arith))
+  no-space h g =
+      rw (e, p, fine h) (sym (front-short _ _ (payloadOf first (variablesHeld bytes l)) out (omega arith)))
 
   -- the variables fit after the first byte
   pub space : k ≤ payloadLimit → k ≤ length out → 1 + length (writtenVariables (variablesHeld bytes l)) ≤ length (set out 0 first)
@@ -80,4 +82,4 @@ module _ (first : ℕ) (bytes l out : List ℕ) (e : isFirst first ≡ true) (p 
   wrote h g there =
       let same : k ≡ length (payloadOf first (variablesHeld bytes l)) = omega arith in
       let whole = there ∙ overwrite-cons out 0 first (writtenVariables (variablesHeld bytes l)) (omega arith) in
-      rw (e, p, fine h, le-ltb (length out) (length (payloadOf first (variablesHeld bytes l))) (omega arith), same, whole)
+      rw (e, p, fine h, same, whole) (sym (front-fits _ _ (payloadOf first (variablesHeld bytes l)) out (omega arith)))

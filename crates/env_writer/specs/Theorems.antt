@@ -5,7 +5,7 @@ use Prim.Native.Nat.{ℕ, _+_}
 use lib.ListN.{take}
 use Rattle.env.specs.Read.{readingOf, says}
 use Rattle.env.specs.Numbers.{variablesHeld}
-use Rattle.env_writer.specs.declared.Written.the-variants.{Wrote}
+use Rattle.refusal.specs.declared.Written.the-variants.{Wrote}
 use Rattle.env_writer.specs.Promise.{writeInto}
 
 -- Where the writer answers that it wrote n bytes, the first n of what was lent read as that first byte and the

@@ -19,21 +19,16 @@ use env::VALUE;
 use env::VAR;
 use env::VARIABLE_LIMIT;
 use env::VariableRecord;
+use refusal::Written;
 
 // What stands for every length that is past the limit.
 const TOO_LONG: usize = PAYLOAD_LIMIT + 1;
-
-// A payload that was written: its length; or the number by which it is refused.
-pub enum Written {
-    Wrote(usize),
-    Refused(u8),
-}
 
 // Whether a record is a VAR or a USERVAR, with its name and its value in the buffer.
 fn is_placed(bytes: &[u8], v: VariableRecord) -> bool
     ensures { λ r. ⌜ r ≡ isPlaced (now (bytes .entry)) v ⌝ }
 {
-    if !env_records::is_kind(v.kind) {
+    if !env_codes::is_kind(v.kind) {
         return false;
     }
     if !env_records::fits(bytes.len(), v.name_at, v.name_length) {
@@ -150,7 +145,7 @@ fn put_all(bytes: &[u8], numbers: &[usize], out: &mut [u8])
 pub fn write(first: u8, bytes: &[u8], numbers: &[usize], out: &mut [u8]) -> Written
     ensures { λ r. ⌜ outcome r (now (out .exit)) ≡ writeInto first (now (bytes .entry)) (now (numbers .entry)) (now (out .entry)) ⌝ }
 {
-    if !env_records::is_first(first) {
+    if !env_codes::is_first(first) {
         return Written::Refused(refusal::NOT_IS_OR_INFO);
     }
     if !all_placed(bytes, numbers) {
@@ -162,7 +157,7 @@ pub fn write(first: u8, bytes: &[u8], numbers: &[usize], out: &mut [u8]) -> Writ
     if VARIABLE_LIMIT < numbers.len() / RECORD_WIDTH {
         return Written::Refused(refusal::TOO_MANY_VARIABLES);
     }
-    if env_records::repeats(bytes, numbers) {
+    if env_search::repeats(bytes, numbers) {
         return Written::Refused(refusal::REPEATED_VARIABLE);
     }
     let length = measure(bytes, numbers);

@@ -4,6 +4,8 @@ use mathlib.Core.Logic.{_↔_, _⊎_}
 use Prim.Native.Nat.{ℕ, _<_}
 use mathlib.Core.Bool.{Bool}
 use lib.Dec.{eqb}
+use Rattle.refusal.specs.declared.Written.{Written}
+use Rattle.refusal.specs.declared.Written.the-variants.{Wrote, Refused}
 use Rattle.telnet.specs.declared.Verb.{Verb}
 use Rattle.telnet.specs.declared.Verb.the-variants.{Will, Wont, Do, Dont}
 use Rattle.telnet.specs.declared.Kind.{Kind}
@@ -32,6 +34,11 @@ wrote n = record { refusal = 0; length = n }
 
 abbrev pub notWritten : ℕ → TvWritten
 notWritten r = record { refusal = r; length = 0 }
+
+-- the numbers of a writer's answer
+abbrev pub writtenNumbers : Written → TvWritten
+writtenNumbers (Wrote n) = wrote n
+writtenNumbers (Refused r) = notWritten r
 
 abbrev pub three : ℕ → ℕ → ℕ → KindNumbers
 three w c o = record { what = w; code = c; option = o }

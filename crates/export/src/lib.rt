@@ -2,8 +2,9 @@
 // writer answers, and marks. Which number stands for what is said in `specs/Numbers.antt`. The exports are in the
 // crates `export_telnet`, `export_option` and their like.
 ghost use mathlib.Core.Path.{_≡_};
-ghost use Rattle.export.specs.Numbers.{kindNumbers, verbNamed, negotiationNamed, kindNamed, KindsNamed, mark};
+ghost use Rattle.export.specs.Numbers.{kindNumbers, verbNamed, negotiationNamed, kindNamed, KindsNamed, mark, writtenNumbers};
 ghost use Rattle.telnet.specs.Event.{code};
+use refusal::Written;
 use telnet::DO;
 use telnet::DONT;
 use telnet::Kind;
@@ -115,6 +116,19 @@ pub fn mark(set: bool) -> u8
     ensures { λ r. ⌜ r ≡ mark set ⌝ }
 {
     if set { 1 } else { 0 }
+}
+
+// What a writer answers, as numbers.
+pub fn written_numbers(answer: Written) -> TvWritten
+    ensures { λ r. ⌜ r ≡ writtenNumbers answer ⌝ }
+{
+    match answer {
+        Written::Wrote(length) => TvWritten { refusal: 0, length },
+        Written::Refused(n) => TvWritten {
+            refusal: n,
+            length: 0,
+        },
+    }
 }
 
 // Which kind numbers name.

@@ -4,12 +4,8 @@ use Prim.Native.Nat.{ℕ}
 use Rattle.env_delivery.specs.declared.Answer.{Answer}
 use Rattle.env_delivery.specs.declared.Answer.the-variants.{Read, Refused}
 use Rattle.env_delivery.specs.Promise.{Delivery}
-use Rattle.env_writer.specs.declared.Written.{Written}
-use Rattle.env_writer.specs.declared.Written.the-variants.{Wrote, Refused as NotWritten}
-use Rattle.env_records.specs.declared.ValuePlace.{ValuePlace}
-use Rattle.env_records.specs.declared.ValuePlace.the-variants.{Absent, At}
-use Rattle.export.specs.declared.TvWritten.{TvWritten}
-use Rattle.export.specs.Numbers.{wrote, notWritten}
+use Rattle.env_search.specs.declared.ValuePlace.{ValuePlace}
+use Rattle.env_search.specs.declared.ValuePlace.the-variants.{Absent, At}
 use Rattle.export_env.specs.declared.TvPayload.{TvPayload}
 use Rattle.export_env.specs.declared.TvValue.{TvValue}
 
@@ -28,10 +24,6 @@ readOut a b n = record { answer = a; bytes = b; numbers = n }
 
 abbrev pub readNumbers : Delivery → ReadOut
 readNumbers d = readOut (payloadNumbers (d .answer)) (d .bytes) (d .numbers)
-
-abbrev pub writtenNumbers : Written → TvWritten
-writtenNumbers (Wrote n) = wrote n
-writtenNumbers (NotWritten r) = notWritten r
 
 abbrev pub placeNumbers : ValuePlace → TvValue
 placeNumbers Absent = record { present = 0; at = 0; length = 0 }

@@ -4,15 +4,14 @@
 // RECORD_WIDTH for each: its kind (0 VAR, 3 USERVAR), the place and the length of its name in a buffer, and the place
 // and the length of its value there.
 ghost use mathlib.Core.Path.{_≡_};
-ghost use Rattle.export_env.specs.Numbers.{payloadNumbers, readOut, readNumbers, writtenNumbers, placeNumbers};
-ghost use Rattle.export.specs.Numbers.{numbered};
+ghost use Rattle.export_env.specs.Numbers.{payloadNumbers, readOut, readNumbers, placeNumbers};
+ghost use Rattle.export.specs.Numbers.{numbered, writtenNumbers};
 ghost use Rattle.env_delivery.specs.Promise.{readInto};
 ghost use Rattle.env_writer.specs.Promise.{writeInto};
-ghost use Rattle.env_records.specs.Records.{placeOf};
+ghost use Rattle.env_search.specs.Places.{placeOf};
 ghost use Rattle.octets.specs.Lent.{outcome};
 use env_delivery::Answer;
-use env_records::ValuePlace;
-use env_writer::Written;
+use env_search::ValuePlace;
 use export::TvWritten;
 
 // A payload that was read: its first byte (0 IS, 2 INFO), how many variables it has, and how many bytes their names and
@@ -48,18 +47,6 @@ fn payload_numbers(answer: Answer) -> TvPayload
             first: 0,
             variables: 0,
             bytes: 0,
-        },
-    }
-}
-
-fn written_numbers(answer: Written) -> TvWritten
-    ensures { λ r. ⌜ r ≡ writtenNumbers answer ⌝ }
-{
-    match answer {
-        Written::Wrote(length) => TvWritten { refusal: 0, length },
-        Written::Refused(n) => TvWritten {
-            refusal: n,
-            length: 0,
         },
     }
 }
@@ -107,7 +94,7 @@ pub extern "C" fn tv_env_write(
         ≡ numbered writtenNumbers (writeInto first (now (bytes .entry)) (now (numbers .entry)) (now (out .entry)))
         ⌝ }
 {
-    written_numbers(env_writer::write(first, bytes, numbers, out))
+    export::written_numbers(env_writer::write(first, bytes, numbers, out))
 }
 
 // Where the value stands of the first variable of a kind and name. The place is the record's own: records that
@@ -116,5 +103,5 @@ pub extern "C" fn tv_env_write(
 pub extern "C" fn tv_env_value(bytes: &[u8], numbers: &[usize], kind: usize, name: &[u8]) -> TvValue
     ensures { λ r. ⌜ r ≡ placeNumbers (placeOf kind (now (name .entry)) (now (bytes .entry)) (now (numbers .entry))) ⌝ }
 {
-    place_numbers(env_records::find(bytes, numbers, kind, name))
+    place_numbers(env_search::find(bytes, numbers, kind, name))
 }

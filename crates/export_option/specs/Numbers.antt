@@ -10,10 +10,10 @@ use Rattle.option_rules.specs.declared.Command.{Command}
 use Rattle.option_rules.specs.declared.Command.the-variants.{On as on, Off as off}
 use Rattle.option_rules.specs.declared.Side.{Side}
 use Rattle.option_rules.specs.declared.Side.the-variants.{Off, On, WantOff, WantOffThenOn, WantOn, WantOnThenOff}
-use Rattle.option_sides.specs.declared.Whose.{Whose}
-use Rattle.option_sides.specs.declared.Whose.the-variants.{Ours, Other}
-use Rattle.option_sides.specs.declared.Outgoing.{Outgoing}
-use Rattle.option_sides.specs.declared.Outgoing.the-variants.{Nothing as NoCommand, Command as OptionCommand}
+use Rattle.option_verbs.specs.declared.Whose.{Whose}
+use Rattle.option_verbs.specs.declared.Whose.the-variants.{Ours, Other}
+use Rattle.option_verbs.specs.declared.Outgoing.{Outgoing}
+use Rattle.option_verbs.specs.declared.Outgoing.the-variants.{Nothing as NoCommand, Command as OptionCommand}
 use Rattle.option_sides.specs.declared.Pair.{Pair}
 use Rattle.option_sides.specs.declared.Sides.{Sides}
 use Rattle.option_sides.specs.declared.Answered.{Answered}

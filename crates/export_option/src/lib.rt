@@ -12,10 +12,10 @@ use option_line::Sent;
 use option_rules::Command;
 use option_rules::Side;
 use option_sides::Answered;
-use option_sides::Outgoing;
 use option_sides::Pair;
 use option_sides::Sides;
-use option_sides::Whose;
+use option_verbs::Outgoing;
+use option_verbs::Whose;
 
 // The two sides of one option, each by its state: 0 off, 1 on, 2 want off, 3 want off then on, 4 want on, 5 want on
 // then off. A number above 5 reads as off.

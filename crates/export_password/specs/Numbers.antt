@@ -1,5 +1,6 @@
 -- The numbers of each answer of the tokens and substitutes, and what is left in the buffer that is lent for one.
 use Prim.Native.Nat.{ℕ}
+use mathlib.Core.Bool.{not}
 use mathlib.Core.List.{List}
 use lib.Dec.{eqb}
 use lib.ListN.{length}
@@ -25,10 +26,12 @@ blockNumbers (Refused r) = record { refusal = r; value = 0 }
 
 -- a hash value written to the front of a buffer, or why there is none; 4 last
 unfoldable pub hashInto : Hash → List ℕ → Outcome TvWritten
-hashInto h out = if eqb (h .refusal) 0 then writeFront wrote (notWritten noRoom) (h .bytes) out else outcome (notWritten (h .refusal)) out
+hashInto h out =
+    if not (eqb (h .refusal) 0) then outcome (notWritten (h .refusal)) out else
+    writeFront wrote (notWritten noRoom) (h .bytes) out
 
 -- the substitute for a token, written likewise; a token of another length is of no record
 unfoldable pub substituteInto : List ℕ → List ℕ → ℕ → ℕ → List ℕ → Outcome TvWritten
 substituteInto token name serverSeed clientSeed out =
-    if eqb (length token) shaLength then hashInto (shaSubstitute token name serverSeed clientSeed) out
-    else outcome (notWritten badProfile) out
+    if not (eqb (length token) shaLength) then outcome (notWritten badProfile) out else
+    hashInto (shaSubstitute token name serverSeed clientSeed) out

@@ -1,15 +1,12 @@
--- The numbers of each answer of the profile table and the token maker, by its cases.
+-- The numbers of each answer of the profile table, by its cases.
 use Prim.Native.Nat.{ℕ}
 use Rattle.profile_table.specs.declared.TableCheck.{TableCheck}
 use Rattle.profile_table.specs.declared.TableCheck.the-variants.{Profiles, Refused as NotRead}
 use Rattle.profile_table.specs.declared.Found.{Found}
 use Rattle.profile_table.specs.declared.Found.the-variants.{Present, Absent, Refused}
-use Rattle.profile_maker.specs.declared.Made.{Made}
-use Rattle.profile_maker.specs.declared.Made.the-variants.{Wrote, Refused as NotMade}
 use Rattle.export_profile.specs.declared.TvTable.{TvTable}
 use Rattle.export_profile.specs.declared.TvFound.{TvFound}
-use Rattle.export.specs.declared.TvWritten.{TvWritten}
-use Rattle.export.specs.Numbers.{mark, wrote, notWritten}
+use Rattle.export.specs.Numbers.{mark}
 
 abbrev pub tableNumbers : TableCheck → TvTable
 tableNumbers (Profiles n) = record { refusal = 0; profiles = n }
@@ -23,7 +20,3 @@ abbrev pub foundNumbers : Found → TvFound
 foundNumbers (Present e) = record { refusal = 0; present = 1; enabled = mark (e .enabled); «des_allowed» = mark (e .«des_allowed»); at = e .at }
 foundNumbers Absent = noProfile 0
 foundNumbers (Refused r) = noProfile r
-
-abbrev pub madeNumbers : Made → TvWritten
-madeNumbers (Wrote n) = wrote n
-madeNumbers (NotMade r) = notWritten r

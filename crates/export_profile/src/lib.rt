@@ -2,8 +2,8 @@
 // what is said at the structs and in `specs/Numbers.antt`. A `refusal` is 0 where there is none; else it is the
 // refusal's number, and every other field is 0. A slice is a pointer and a length.
 ghost use mathlib.Core.Path.{_≡_};
-ghost use Rattle.export_profile.specs.Numbers.{tableNumbers, foundNumbers, madeNumbers};
-ghost use Rattle.export.specs.Numbers.{numbered};
+ghost use Rattle.export_profile.specs.Numbers.{tableNumbers, foundNumbers};
+ghost use Rattle.export.specs.Numbers.{numbered, writtenNumbers};
 ghost use Rattle.names.specs.Name.{raised};
 ghost use Rattle.profile.specs.Table.{tableOf};
 ghost use Rattle.profile_table.specs.Answer.{checked, foundIn};
@@ -12,7 +12,6 @@ ghost use Rattle.profile_maker.specs.Promise.{makeInto};
 ghost use Rattle.octets.specs.Lent.{outcome};
 use export::TvWritten;
 use export::mark;
-use profile_maker::Made;
 use profile_table::Found;
 use profile_table::TableCheck;
 
@@ -77,18 +76,6 @@ fn found_numbers(answer: Found) -> TvFound
     }
 }
 
-fn made_numbers(answer: Made) -> TvWritten
-    ensures { λ r. ⌜ r ≡ madeNumbers answer ⌝ }
-{
-    match answer {
-        Made::Wrote(length) => TvWritten { refusal: 0, length },
-        Made::Refused(n) => TvWritten {
-            refusal: n,
-            length: 0,
-        },
-    }
-}
-
 // How many profiles a table has. Refused by 30, 31 and 32.
 #[no_mangle]
 pub extern "C" fn tv_table_check(table: &[u8]) -> TvTable
@@ -117,8 +104,8 @@ pub extern "C" fn tv_make_record(
 ) -> TvWritten
     ensures { λ r. ⌜
         outcome r (now (out .exit))
-        ≡ numbered madeNumbers (makeInto (making (now (name .entry)) (now (password .entry)) enabled «des_allowed») (now (out .entry)))
+        ≡ numbered writtenNumbers (makeInto (making (now (name .entry)) (now (password .entry)) enabled «des_allowed») (now (out .entry)))
         ⌝ }
 {
-    made_numbers(profile_maker::make_record(name, password, enabled, des_allowed, out))
+    export::written_numbers(profile_maker::make_record(name, password, enabled, des_allowed, out))
 }

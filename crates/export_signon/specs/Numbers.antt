@@ -7,11 +7,7 @@ use Rattle.signon.specs.declared.Verdict.{Verdict}
 use Rattle.signon.specs.declared.Verdict.the-variants.{Panel, NotKnown, Disabled, Failed, Grant}
 use Rattle.signon.specs.declared.Answer.{Answer}
 use Rattle.signon.specs.declared.Answer.the-variants.{Given, Refused}
-use Rattle.startup_record.specs.declared.Written.{Written}
-use Rattle.startup_record.specs.declared.Written.the-variants.{Wrote, Refused as NotWritten}
 use Rattle.export_signon.specs.declared.TvVerdict.{TvVerdict}
-use Rattle.export.specs.declared.TvWritten.{TvWritten}
-use Rattle.export.specs.Numbers.{wrote, notWritten}
 use Rattle.octets.specs.Choice.{if_then_else_}
 
 -- 0002, 0003 and 0004 by their digits, PANEL before them and GRANT after them
@@ -34,10 +30,6 @@ verdictNamed n =
 abbrev pub answerNumbers : Answer → TvVerdict
 answerNumbers (Given v) = record { refusal = 0; verdict = verdictNumber v }
 answerNumbers (Refused r) = record { refusal = r; verdict = 0 }
-
-abbrev pub writtenNumbers : Written → TvWritten
-writtenNumbers (Wrote n) = wrote n
-writtenNumbers (NotWritten r) = notWritten r
 
 -- Which verdict a number names: GRANT is 5 and no other number, and a number that is none of 1, 2, 3 and 5 is 0004; and
 -- the number of a verdict names it.

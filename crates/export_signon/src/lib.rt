@@ -2,15 +2,14 @@
 // what is said at the structs and in `specs/Numbers.antt`. A `refusal` is 0 where there is none; else it is the
 // refusal's number, and every other field is 0. A slice is a pointer and a length.
 ghost use mathlib.Core.Path.{_≡_};
-ghost use Rattle.export_signon.specs.Numbers.{verdictNumber, verdictNamed, answerNumbers, writtenNumbers, VerdictNamed};
-ghost use Rattle.export.specs.Numbers.{numbered};
+ghost use Rattle.export_signon.specs.Numbers.{verdictNumber, verdictNamed, answerNumbers, VerdictNamed};
+ghost use Rattle.export.specs.Numbers.{numbered, writtenNumbers};
 ghost use Rattle.signon.specs.Verdict.{answerOf};
 ghost use Rattle.startup_record.specs.Promise.{respondInto};
 ghost use Rattle.octets.specs.Lent.{outcome};
 use export::TvWritten;
 use signon::Answer;
 use signon::Verdict;
-use startup_record::Written;
 
 // A verdict: 1 PANEL, 2 for 0002, 3 for 0003, 4 for 0004, 5 GRANT.
 #[repr(C)]
@@ -58,18 +57,6 @@ fn answer_numbers(answer: Answer) -> TvVerdict
     }
 }
 
-fn written_numbers(answer: Written) -> TvWritten
-    ensures { λ r. ⌜ r ≡ writtenNumbers answer ⌝ }
-{
-    match answer {
-        Written::Wrote(length) => TvWritten { refusal: 0, length },
-        Written::Refused(n) => TvWritten {
-            refusal: n,
-            length: 0,
-        },
-    }
-}
-
 // Which verdict a number names.
 pub fn verdicts_named()
     ensures { λ _. ⌜ VerdictNamed ⌝ }
@@ -100,5 +87,5 @@ pub extern "C" fn tv_response(
         ⌝ }
 {
     let given = verdict_named(verdict);
-    written_numbers(startup_record::response(device_fault, given, system, device, out))
+    export::written_numbers(startup_record::response(device_fault, given, system, device, out))
 }

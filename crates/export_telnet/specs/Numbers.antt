@@ -4,15 +4,14 @@ use mathlib.Core.List.{List}
 use Rattle.export.specs.declared.KindNumbers.{KindNumbers}
 use Rattle.export.specs.declared.NamedKind.{NamedKind}
 use Rattle.export.specs.declared.NamedKind.the-variants.{Nothing as NoKind, Kind as IsKind}
-use Rattle.export.specs.declared.TvWritten.{TvWritten}
-use Rattle.export.specs.Numbers.{kindNumbers, wrote, notWritten}
+use Rattle.export.specs.Numbers.{kindNumbers}
 use Rattle.telnet.specs.Event.{event}
 use Rattle.telnet_reader.specs.declared.Answer.{Answer}
 use Rattle.telnet_reader.specs.declared.Answer.the-variants.{End, Found, Refused}
 use Rattle.telnet_records.specs.declared.Record.{Record}
 use Rattle.telnet_records.specs.declared.Record.the-variants.{Complete, Unfinished, Refused as NoRecord}
-use Rattle.telnet_writer.specs.declared.Written.{Written}
-use Rattle.telnet_writer.specs.declared.Written.the-variants.{Wrote, Refused as NotWritten}
+use Rattle.refusal.specs.declared.Written.{Written}
+use Rattle.refusal.specs.declared.Written.the-variants.{Refused as NotWritten}
 use Rattle.telnet_writer.specs.Promise.{writeOf}
 use Rattle.export_telnet.specs.declared.TvEvent.{TvEvent}
 use Rattle.export_telnet.specs.declared.TvRecord.{TvRecord}
@@ -35,10 +34,6 @@ abbrev pub recordNumbers : Record → TvRecord
 recordNumbers (Complete n x) = record { complete = 1; refusal = 0; length = n; next = x }
 recordNumbers Unfinished = record { complete = 0; refusal = 0; length = 0; next = 0 }
 recordNumbers (NoRecord r) = record { complete = 0; refusal = r; length = 0; next = 0 }
-
-abbrev pub writtenNumbers : Written → TvWritten
-writtenNumbers (Wrote n) = wrote n
-writtenNumbers (NotWritten r) = notWritten r
 
 -- the event that numbers name, written; where they name none it is not writable
 abbrev pub writeNamed : NamedKind → List ℕ → List ℕ → Outcome Written

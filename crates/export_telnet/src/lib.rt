@@ -2,17 +2,17 @@
 // is said at the structs and in `specs/Numbers.antt`. A `refusal` is 0 where there is none; else it is the refusal's
 // number, and every other field is 0. A slice is a pointer and a length.
 ghost use mathlib.Core.Path.{_≡_};
-ghost use Rattle.export_telnet.specs.Numbers.{eventNumbers, recordNumbers, writtenNumbers, writeNamed};
-ghost use Rattle.export.specs.Numbers.{kindNamed, numbered};
+ghost use Rattle.export_telnet.specs.Numbers.{eventNumbers, recordNumbers, writeNamed};
+ghost use Rattle.export.specs.Numbers.{kindNamed, numbered, writtenNumbers};
 ghost use Rattle.telnet_reader.specs.Promise.{lookAt, readAt};
 ghost use Rattle.telnet_records.specs.Promise.{recordAt};
 ghost use Rattle.telnet_writer.specs.Promise.{writeOf};
 ghost use Rattle.octets.specs.Lent.{outcome};
 use export::NamedKind;
 use export::TvWritten;
+use refusal::Written;
 use telnet_reader::Answer;
 use telnet_records::Record;
-use telnet_writer::Written;
 
 // What stands at a place. `what` is 0 where the input ended, 1 for data, 2 for a command, 3 for a negotiation, 4 for a
 // subnegotiation. `code` is the command, or 251 to 254 for WILL, WONT, DO and DONT. `option` is the option byte.
@@ -97,18 +97,6 @@ fn record_numbers(answer: Record) -> TvRecord
     }
 }
 
-fn written_numbers(answer: Written) -> TvWritten
-    ensures { λ r. ⌜ r ≡ writtenNumbers answer ⌝ }
-{
-    match answer {
-        Written::Wrote(length) => TvWritten { refusal: 0, length },
-        Written::Refused(n) => TvWritten {
-            refusal: n,
-            length: 0,
-        },
-    }
-}
-
 // The event at a place; nothing is copied. Refused by 1, 2, 3, 5 or 6.
 #[no_mangle]
 pub extern "C" fn tv_look(s: &[u8], at: usize) -> TvEvent
@@ -149,10 +137,10 @@ pub extern "C" fn tv_write(
 {
     match export::kind_named(what, code, option) {
         NamedKind::Kind(kind) => {
-            return written_numbers(telnet_writer::write(kind, payload, out));
+            return export::written_numbers(telnet_writer::write(kind, payload, out));
         }
         NamedKind::Nothing => {
-            return written_numbers(Written::Refused(refusal::NOT_WRITABLE));
+            return export::written_numbers(Written::Refused(refusal::NOT_WRITABLE));
         }
     }
 }

@@ -1,13 +1,13 @@
-// Profile, device and system names, by value, and their EBCDIC.
+// Profile, device and system names, by value, and the EBCDIC of a byte. What is right of names, their
+// EBCDIC and their order is said in `specs/`; a text is put in EBCDIC by the crate `names_ebcdic`, and names are
+// compared by `names_order`.
 ghost use mathlib.Core.Path.{_≡_};
-ghost use Prim.Native.Nat.{_+_, _-_, _≤_};
-ghost use lib.ListN.{length, getD};
-ghost use Rattle.octets.specs.Lent.{outcome};
-ghost use Rattle.octets.specs.Promise.{putAt};
+ghost use Prim.Native.Nat.{_≤_};
+ghost use lib.ListN.{length};
 ghost use Rattle.names.specs.Range.{every};
 ghost use Rattle.names.specs.Padding.{filled};
 ghost use Rattle.names.specs.Name.{raisedByte, raised, isNameByte, isName, named, profileLimit, deviceLimit, systemLimit};
-ghost use Rattle.names.specs.Ebcdic.{ebcdic, blank, ebcdicOf};
+ghost use Rattle.names.specs.Ebcdic.{ebcdic};
 
 // The raised bytes of a name with zeros after them, and how many they are: 0, where a text is no name.
 pub struct Name {
@@ -22,13 +22,11 @@ pub const DEVICE_LIMIT: usize = 10;
 
 pub const SYSTEM_LIMIT: usize = 8;
 
-// EBCDIC's substitute for what it does not have, and its blank.
+// EBCDIC's substitute for what it does not have.
 const SUBSTITUTE: u8 = 0x3F;
 
-const BLANK: u8 = 0x40;
-
 // A lower case letter raised, any other byte as it is.
-fn raise(b: u8) -> u8
+pub fn raise(b: u8) -> u8
     ensures { λ r. ⌜ r ≡ raisedByte b ⌝ }
 {
     match b {
@@ -139,41 +137,4 @@ pub fn system_name(text: &[u8]) -> Name
     ensures { λ r. ⌜ r ≡ named systemLimit (now (text .entry)) ⌝ }
 {
     name_of(text, SYSTEM_LIMIT)
-}
-
-// The byte at a place of the EBCDIC of a text, and after its end the blank.
-fn ebcdic_at(text: &[u8], at: usize) -> u8
-    ensures { λ r. ⌜ r ≡ getD (ebcdicOf (now (text .entry))) at blank ⌝ }
-{
-    if at < text.len() {
-        return ebcdic(raise(text[at]));
-    }
-    BLANK
-}
-
-// How long a text of `length` bytes is when it is padded to a width.
-fn filled_length(length: usize, width: usize) -> usize
-    ensures { λ r. ⌜ r ≡ length + (width - length) ⌝ }
-{
-    if length < width {
-        return width;
-    }
-    length
-}
-
-// Puts the EBCDIC of a text, padded with blanks to a width, at a place of the buffer; where it does not fit, writes
-// nothing and answers false.
-pub fn put_ebcdic(text: &[u8], width: usize, out: &mut [u8], at: usize) -> bool
-    ensures { λ r. ⌜ outcome r (now (out .exit)) ≡ putAt (filled blank width (ebcdicOf (now (text .entry)))) (now (out .entry)) at ⌝ }
-{
-    let count = filled_length(text.len(), width);
-    if octets::no_room(count, at, out.len()) {
-        return false;
-    }
-    let mut i = 0;
-    while i < count {
-        out[at + i] = ebcdic_at(text, i);
-        i += 1;
-    }
-    true
 }

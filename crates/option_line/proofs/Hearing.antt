@@ -21,11 +21,11 @@ use Rattle.telnet_reader.specs.Promise.{answered, lookAt}
 use Rattle.option_rules.specs.declared.Command.{Command}
 use Rattle.option_rules.specs.declared.Sending.{Sending}
 use Rattle.option_rules.specs.declared.Sending.the-variants.{Nothing, Command as Sends}
-use Rattle.option_sides.specs.declared.Whose.{Whose}
-use Rattle.option_sides.specs.declared.Told.{Told}
+use Rattle.option_verbs.specs.declared.Whose.{Whose}
+use Rattle.option_verbs.specs.declared.Told.{Told}
 use Rattle.option_sides.specs.declared.Sides.{Sides}
-use Rattle.option_sides.specs.Verbs.{toldBy, verbFor, facing}
-use Rattle.option_sides.proofs.Setting.{heard-as-said}
+use Rattle.option_verbs.specs.Verbs.{toldBy, verbFor, facing}
+use Rattle.option_verbs.proofs.Heard.{heard-as-said}
 use Rattle.option_line.specs.declared.Sent.{Sent}
 use Rattle.option_line.specs.Line.{sent, heardAs, receivedOn, requestedOn, heardOn}
 use Rattle.option_line.specs.Theorems.{byReceipt, byRequest, carrying, taken, Short, Kept, Tells, ConcernsNoOption, TellsHeard, HearTells, RequestIsHeard}

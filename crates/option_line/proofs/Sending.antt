@@ -1,5 +1,5 @@
 -- What is sent is `octets::put` of the command's bytes, and what its answer makes of the sides. Assumes nothing.
-use mathlib.Core.Path.{_≡_, refl, ap, _∙_}
+use mathlib.Core.Path.{_≡_, refl, sym, ap, _∙_}
 use mathlib.Core.Bool.{Bool, true, false}
 use mathlib.Core.Logic.{⊎-elim}
 use mathlib.Core.List.{List}
@@ -11,16 +11,16 @@ use Rattle.octets.specs.Lent.{Outcome, outcome}
 use Rattle.octets.specs.Promise.{putAt}
 use Rattle.octets.proofs.Order.{below-or-above}
 use Rattle.octets.proofs.Overwrite.{overwrite-whole}
-use Rattle.octets.proofs.Promise.{put-fits, put-refused}
+use Rattle.octets.proofs.Promise.{put-fits, put-refused, front-fits}
+use Rattle.refusal.specs.declared.Written.{Written}
 use Rattle.refusal.specs.Refusal.{noRoom}
 use Rattle.telnet.specs.declared.Verb.{Verb}
 use Rattle.telnet.specs.Event.{negotiation}
 use Rattle.telnet.specs.Write.{written, writable}
-use Rattle.telnet_writer.specs.declared.Written.{Written}
 use Rattle.telnet_writer.specs.Promise.{writeOf}
 use Rattle.option_sides.specs.declared.Sides.{Sides}
 use Rattle.option_sides.specs.declared.Answered.{Answered}
-use Rattle.option_sides.specs.declared.Outgoing.the-variants.{Nothing, Command as OptionCommand}
+use Rattle.option_verbs.specs.declared.Outgoing.the-variants.{Nothing, Command as OptionCommand}
 use Rattle.option_line.specs.declared.Sent.{Sent}
 use Rattle.option_line.specs.Line.{sent, commandLength, sentBy}
 
@@ -33,7 +33,9 @@ command-length v o = refl
 pub command-filled : (v : Verb) (o : ℕ) (l : List ℕ) → length l ≡ 3 → {w : Written} {x : List ℕ} → outcome w x ≡ writeOf (negotiation v o) l
     → x ≡ written (negotiation v o)
 unfolding writeOf writable written
-command-filled v o l h e = ap (λ (r : Outcome Written). r .lent) (rw h at e) ∙ overwrite-whole l _ (rw h)
+command-filled v o l h e =
+    let x = written (negotiation v o) in
+    ap (λ (r : Outcome Written). r .lent) (e ∙ front-fits _ _ x l (omega arith)) ∙ overwrite-whole l x (sym h)
 
 -- by whether the command was put
 abbrev answered : Sides → Answered → ℕ → Bool → Sent

@@ -17,9 +17,9 @@ use Rattle.option_rules.specs.declared.Sending.the-variants.{Nothing, Command a
 use Rattle.option_rules.specs.declared.Step.{Step}
 use Rattle.option_rules.proofs.Cells as Cells
 use Rattle.option_rules.proofs.Cells.{receipt-tells, request-tells}
-use Rattle.option_sides.specs.declared.Whose.{Whose}
+use Rattle.option_verbs.specs.declared.Whose.{Whose}
 use Rattle.option_sides.specs.declared.Sides.{Sides}
-use Rattle.option_sides.specs.Verbs.{toldBy, commandFor}
+use Rattle.option_verbs.specs.Verbs.{toldBy, commandFor}
 use Rattle.option_sides.specs.Session.{sideAt, withSide, answeredBy}
 use Rattle.option_sides.proofs.Setting.{own-side}
 use Rattle.option_line.specs.declared.Sent.{Sent}

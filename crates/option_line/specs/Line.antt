@@ -18,10 +18,10 @@ use Rattle.telnet_reader.specs.declared.Answer.{Answer}
 use Rattle.telnet_reader.specs.declared.Answer.the-variants.{End, Found, Refused}
 use Rattle.telnet_reader.specs.Promise.{lookAt}
 use Rattle.option_rules.specs.declared.Command.{Command}
-use Rattle.option_sides.specs.declared.Whose.{Whose}
+use Rattle.option_verbs.specs.declared.Whose.{Whose}
 use Rattle.option_sides.specs.declared.Sides.{Sides}
 use Rattle.option_sides.specs.declared.Answered.{Answered}
-use Rattle.option_sides.specs.declared.Outgoing.the-variants.{Nothing, Command as OptionCommand}
+use Rattle.option_verbs.specs.declared.Outgoing.the-variants.{Nothing, Command as OptionCommand}
 use Rattle.option_sides.specs.Session.{received, requested}
 use Rattle.option_line.specs.declared.Sent.{Sent}
 

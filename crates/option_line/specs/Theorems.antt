@@ -16,9 +16,9 @@ use Rattle.option_rules.specs.declared.Sending.{Sending}
 use Rattle.option_rules.specs.declared.Sending.the-variants.{Nothing, Command as Sends}
 use Rattle.option_rules.specs.declared.Step.{Step}
 use Rattle.option_rules.specs.Table.{rulesOf, onReceive, onRequest}
-use Rattle.option_sides.specs.declared.Whose.{Whose}
+use Rattle.option_verbs.specs.declared.Whose.{Whose}
 use Rattle.option_sides.specs.declared.Sides.{Sides}
-use Rattle.option_sides.specs.Verbs.{toldBy, verbFor, facing}
+use Rattle.option_verbs.specs.Verbs.{toldBy, verbFor, facing}
 use Rattle.option_sides.specs.Session.{sideAt, withSide}
 use Rattle.option_line.specs.declared.Sent.{Sent}
 use Rattle.option_line.specs.Line.{sent, receivedOn, requestedOn, heardOn}

@@ -1,27 +1,18 @@
--- Setting one of the ten sides sets that one alone (`sets-one`, the statement `Session.SetsOne`), and what one end says
--- of a side the other hears of it (`heard-as-said`, `Verbs.HeardAsSaid`). Assumes nothing.
+-- Setting one of the ten sides sets that one alone: the theorem `Session.SetsOne`. Assumes nothing.
 use mathlib.Core.Path.{_≡_, refl, sym, ap, _∙_}
 use Prim.Native.Nat.{ℕ}
 use mathlib.Core.Bool.{Bool, true, false, not}
 use borrow.Author.Tests.{eqb-true, eqb-false, ne-eqb}
 use lib.Dec.{T, eqb}
-use Rattle.option_rules.specs.declared.Command.the-variants.{On as on, Off as off}
 use Rattle.option_rules.specs.declared.Side.{Side}
-use Rattle.option_sides.specs.declared.Whose.{Whose}
-use Rattle.option_sides.specs.declared.Whose.the-variants.{Ours, Other}
+use Rattle.option_verbs.specs.declared.Whose.{Whose}
+use Rattle.option_verbs.specs.declared.Whose.the-variants.{Ours, Other}
 use Rattle.option_sides.specs.declared.Pair.{Pair}
 use Rattle.option_sides.specs.declared.Sides.{Sides}
 use Rattle.option_rules.specs.Table.{binary, suppressGoAhead, terminalType, endOfRecord, newEnviron, choose, carried}
-use Rattle.option_sides.specs.Verbs.{HeardAsSaid}
 use Rattle.option_sides.specs.Session.{ofPair, inPair, pairAt, withPair, sideAt, withSide, SetsOne}
 use Rattle.octets.specs.Choice.{if_then_else_}
 use Rattle.octets.proofs.Choice.{choice}
-
-pub heard-as-said : HeardAsSaid
-heard-as-said Ours on = refl
-heard-as-said Ours off = refl
-heard-as-said Other on = refl
-heard-as-said Other off = refl
 
 -- what holds for each of the five, and where it is none of them, holds for the one that is chosen
 pub by-option : {A : Type 0} (P : A → Type 0) (o : ℕ) {b g t r e n : A} → (o ≡ binary → P b) → (o ≡ suppressGoAhead → P g)

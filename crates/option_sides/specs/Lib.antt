@@ -1,2 +1,1 @@
-pub mod Verbs
 pub mod Session

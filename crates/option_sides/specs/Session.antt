@@ -9,13 +9,13 @@ use Rattle.option_rules.specs.declared.Command.{Command}
 use Rattle.option_rules.specs.declared.Side.{Side}
 use Rattle.option_rules.specs.declared.Side.the-variants.{Off}
 use Rattle.option_rules.specs.declared.Step.{Step}
-use Rattle.option_sides.specs.declared.Whose.{Whose}
-use Rattle.option_sides.specs.declared.Whose.the-variants.{Ours, Other}
+use Rattle.option_verbs.specs.declared.Whose.{Whose}
+use Rattle.option_verbs.specs.declared.Whose.the-variants.{Ours, Other}
 use Rattle.option_sides.specs.declared.Pair.{Pair}
 use Rattle.option_sides.specs.declared.Sides.{Sides}
 use Rattle.option_sides.specs.declared.Answered.{Answered}
 use Rattle.option_rules.specs.Table.{choose, carried, rulesOf, onReceive, onRequest}
-use Rattle.option_sides.specs.Verbs.{toldBy, commandFor}
+use Rattle.option_verbs.specs.Verbs.{toldBy, commandFor}
 
 abbrev pub pair : Side → Side → Pair
 pair s t = record { ours = s; other = t }

@@ -4,11 +4,10 @@ ghost use Rattle.option_sides.specs.Session.{ofPair, inPair, pairAt, wit
 use crate::Answered;
 use crate::Pair;
 use crate::Sides;
-use crate::Whose;
-use crate::verbs;
 use option_rules::Command;
 use option_rules::Side;
 use option_rules::Step;
+use option_verbs::Whose;
 use telnet::Verb;
 
 const BOTH_OFF: Pair = Pair {
@@ -96,7 +95,7 @@ impl Sides {
         Answered {
             sides: self.with(option, pair),
             number: step.number,
-            writes: verbs::command_for(whose, option, sends),
+            writes: option_verbs::command_for(whose, option, sends),
         }
     }
 
@@ -104,7 +103,7 @@ impl Sides {
     pub fn receive(self, verb: Verb, option: u8, accept: bool) -> Answered
         ensures { λ r. ⌜ r ≡ received self verb option accept ⌝ }
     {
-        let told = verbs::told_by(verb);
+        let told = option_verbs::told_by(verb);
         let whose = told.whose;
         let command = told.command;
         let side = self.side(whose, option);

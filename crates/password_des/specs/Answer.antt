@@ -5,6 +5,7 @@ use mathlib.Core.List.{List}
 use Prim.Native.Nat.{ℕ}
 use Rattle.octets.specs.Choice.{if_then_else_}
 use Rattle.refusal.specs.Refusal.{badProfileName, badPassword}
+use Rattle.refusal.specs.RefusedBy.{Refusal, noRefusal, refusedBy}
 use Rattle.names.specs.Name.{isName, profileLimit}
 use Rattle.names.specs.Ebcdic.{ebcdicOf}
 use Rattle.password_des.specs.declared.Block.{Block}
@@ -25,3 +26,8 @@ unfoldable pub desSubstitute : ℕ → List ℕ → ℕ → ℕ → Block
 desSubstitute token name serverSeed clientSeed =
     if not (isName profileLimit name) then Refused badProfileName else
     Value (Des.PW-SUB token serverSeed clientSeed (ebcdicOf name))
+
+-- the number that either refuses by
+abbrev pub blockRefusal : Block → Refusal
+blockRefusal (Value v) = noRefusal
+blockRefusal (Refused n) = refusedBy n

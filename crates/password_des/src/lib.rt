@@ -24,7 +24,7 @@ fn padded(text: &[u8]) -> [u8; 16]
     ensures { λ r. ⌜ r ≡ filled blank 16 (ebcdicOf (now (text .entry))) ⌝ }
 {
     let mut bytes = [0u8; 16];
-    names::put_ebcdic(text, 16, &mut bytes, 0);
+    names_ebcdic::put_ebcdic(text, 16, &mut bytes, 0);
     bytes
 }
 

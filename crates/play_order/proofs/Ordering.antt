@@ -7,6 +7,7 @@ use native.Mathlib.Omega.{arith}
 use lib.ListN.{replicate}
 use Rattle.refusal.specs.Refusal.{noneHeld}
 use Rattle.octets.specs.Lent.{Outcome, outcome, overwrite}
+use Rattle.octets.specs.Promise.{writeFront}
 use Rattle.telnet.specs.declared.Verb.the-variants.{Do}
 use Rattle.telnet.specs.Event.{negotiation}
 use Rattle.print_ledger.specs.declared.Ledger.{Ledger}
@@ -31,7 +32,7 @@ marked h = record { held = h }
 module _ {r : Completed} {bytes : List ℕ} where
   held-written : (t : Bool) → outcome r bytes ≡ completeInto (marked t) (replicate 10 0) → r .completion ≡ Written
       → recordEvents bytes ≡ completed (marked t)
-  unfolding completeInto overwrite
+  unfolding completeInto writeFront overwrite
   held-written false e h =
       let differ : Written ≡ Refused noneHeld = sym h ∙ ap (λ (o : Outcome Completed). o .answer .completion) e in
       absurd (let z : _≡_ {A = ℕ} 0 1 = cc differ in omega arith)
@@ -39,7 +40,7 @@ module _ {r : Completed} {bytes : List ℕ} where
 
   none-written : (t : Bool) → outcome r bytes ≡ completeInto (marked t) (replicate 10 0) → {n : ℕ} → r .completion ≡ Refused n
       → [] ≡ completed (marked t)
-  unfolding completeInto
+  unfolding completeInto writeFront
   none-written false e h = refl
   none-written true e h =
       let differ : Written ≡ Refused _ = sym (ap (λ (o : Outcome Completed). o .answer .completion) e) ∙ h in

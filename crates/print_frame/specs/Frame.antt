@@ -15,6 +15,7 @@ use Rattle.print_frame.specs.declared.Frame.{Frame}
 use Rattle.print_frame.specs.declared.FrameAnswer.{FrameAnswer}
 use Rattle.print_frame.specs.declared.FrameAnswer.the-variants.{Read, Refused}
 use Rattle.refusal.specs.Refusal.{badFrameLength, badRecordType, badDataFlow, badHeaderLength, reservedFlag, badOperation}
+use Rattle.refusal.specs.RefusedBy.{Refusal, noRefusal, refusedBy}
 use Rattle.octets.specs.Choice.{if_then_else_}
 
 -- the byte at a place
@@ -135,3 +136,8 @@ frameOf f =
     if not (eqb (identifier f) 0x12A0) then Refused badRecordType else
     if not (isFlow (dataFlow f)) then Refused badDataFlow else
     headerOf f
+
+-- the number that a frame is refused by
+abbrev pub frameRefusal : FrameAnswer → Refusal
+frameRefusal (Read f) = noRefusal
+frameRefusal (Refused n) = refusedBy n

@@ -6,12 +6,12 @@ use mathlib.Core.Logic.{_↔_}
 use mathlib.Core.List.{List, [], _∷_}
 use Prim.Native.Nat.{ℕ, _+_, _≤_}
 use native.Mathlib.Omega.{arith}
-use lib.Dec.{T, eqb, ltb}
+use lib.Dec.{T, eqb}
 use lib.ListN.{length}
-use borrow.Author.Tests.{ltb-true, ltb-false}
 use Rattle.octets.specs.Choice.{if_then_else_}
 use Rattle.octets.specs.Lent.{Outcome, overwrite}
-use Rattle.octets.proofs.Choice.{choice}
+use Rattle.octets.proofs.Promise.{front-either}
+use Rattle.refusal.specs.RefusedBy.{isRefused}
 use Rattle.print_frame.specs.declared.Direction.{Direction}
 use Rattle.print_frame.specs.declared.Direction.the-variants.{Outbound, Inbound}
 use Rattle.print_frame.specs.declared.Operation.{Operation}
@@ -22,20 +22,20 @@ use Rattle.print_frame.specs.declared.FrameAnswer.the-variants.{Read, Refused}
 use Rattle.print_ledger.specs.declared.Ledger.{Ledger}
 use Rattle.print_ledger.specs.declared.Completed.{Completed}
 use Rattle.print_frame.specs.Frame.{frameOf}
-use Rattle.print_ledger.specs.Ledger.{fresh, answered, takeFrame, printComplete, completeInto}
+use Rattle.print_ledger.specs.Ledger.{fresh, answered, takeFrame, printComplete, completeInto, receiptRefusal, completionRefusal}
 use Rattle.print_ledger.specs.History.{Call, frame, completion, after, heldRecords, isOutbound, asks, isPrintFrame, isClearFrame, prints}
-use Rattle.print_ledger.specs.History.{refusedReceipt, refusedCompletion, refusedCall, accepts, clears, completes, one, countCalls, run}
+use Rattle.print_ledger.specs.History.{refusedCall, accepts, clears, completes, one, countCalls, run}
 use Rattle.print_ledger.specs.Theorems.{PrintsAreHeardBack}
 
 abbrev isTaken : Ledger → FrameAnswer → Bool
-isTaken l a = not (refusedReceipt (answered l a .receipt))
+isTaken l a = not (isRefused (receiptRefusal (answered l a .receipt)))
 
 -- what a frame makes of a ledger
 record Stepped (l : Ledger) (a : FrameAnswer) : Type 0 where
   balanced : heldRecords l + one (asks Print a && isTaken l a) ≡ one (asks Clear a && eqb (heldRecords l) 1) + heldRecords (answered l a .ledger)
   print-held : T (asks Print a) → heldRecords l ≡ 0 → T (asks Print a && isTaken l a) × (heldRecords (answered l a .ledger) ≡ 1)
   clear-empties : T (asks Clear a) → T (isTaken l a) × (heldRecords (answered l a .ledger) ≡ 0)
-  kept : T (refusedReceipt (answered l a .receipt)) → answered l a .ledger ≡ l
+  kept : T (isRefused (receiptRefusal (answered l a .receipt))) → answered l a .ledger ≡ l
 
 -- a ledger by whether a record is held
 abbrev marked : Bool → Ledger
@@ -53,7 +53,7 @@ turned f d o = record {
 }
 
 read-stepped : (h : Bool) (f : Frame) (d : Direction) (o : Operation) → Stepped (marked h) (Read (turned f d o))
-unfolding heldRecords isOutbound asks refusedReceipt
+unfolding heldRecords isOutbound asks
 read-stepped h f Inbound o =
     record { balanced = omega arith; print-held = λ p. absurd p; clear-empties = λ c. absurd c; kept = λ r. refl }
 read-stepped false f Outbound Print =
@@ -66,24 +66,24 @@ read-stepped true f Outbound Clear =
     record { balanced = refl; print-held = λ p. absurd p; clear-empties = λ c. (tt, refl); kept = λ r. absurd r }
 
 stepped : (l : Ledger) (a : FrameAnswer) → Stepped l a
-unfolding asks refusedReceipt
+unfolding asks
 stepped l (Read f) = read-stepped (l .held) f (f .direction) (f .operation)
 stepped l (Refused n) =
     record { balanced = omega arith; print-held = λ p. absurd p; clear-empties = λ c. absurd c; kept = λ r. refl }
 
 abbrev isWritten : Outcome Completed → Bool
-isWritten o = not (refusedCompletion (o .answer .completion))
+isWritten o = not (isRefused (completionRefusal (o .answer .completion)))
 
 -- what a completion makes of a ledger and an output
 record Ended (l : Ledger) (out : List ℕ) (o : Outcome Completed) : Type 0 where
   exactly : T (isWritten o) ↔ ((heldRecords l ≡ 1) × (length printComplete ≤ length out))
   bytes : o .lent ≡ (if isWritten o then overwrite out 0 printComplete else out)
   idle : T (isWritten o) → heldRecords (o .answer .ledger) ≡ 0
-  kept : T (refusedCompletion (o .answer .completion)) → o .answer .ledger ≡ l
+  kept : T (isRefused (completionRefusal (o .answer .completion))) → o .answer .ledger ≡ l
   balanced : heldRecords l ≡ one (isWritten o) + heldRecords (o .answer .ledger)
 
 mark-ended : (h : Bool) (out : List ℕ) → Ended (marked h) out (completeInto (marked h) out)
-unfolding refusedCompletion heldRecords completeInto
+unfolding heldRecords completeInto
 mark-ended false out = record {
   exactly = (λ w. absurd w, λ h. absurd (omega arith));
   bytes = refl;
@@ -92,16 +92,16 @@ mark-ended false out = record {
   balanced = refl;
 }
 mark-ended true out =
-    choice (Ended (marked true) out) (ltb (length out) (length printComplete))
+    front-either _ _ printComplete out (Ended (marked true) out)
     (λ e. record {
-      exactly = (λ w. absurd w, λ h. absurd (omega (arith, ltb-true (length out) 10 e)));
+      exactly = (λ w. absurd w, λ h. absurd (omega (arith, e)));
       bytes = refl;
       idle = λ w. absurd w;
       kept = λ r. refl;
       balanced = refl;
     })
     (λ e. record {
-      exactly = (λ w. (refl, ltb-false (length out) 10 e), λ h. tt);
+      exactly = (λ w. (refl, e), λ h. tt);
       bytes = refl;
       idle = λ w. refl;
       kept = λ r. absurd r;

@@ -1,3 +1,2 @@
-pub mod Completing
 pub mod HeardBack
 pub mod OnTheLine

@@ -13,11 +13,8 @@ use Rattle.print_frame.specs.declared.FrameAnswer.{FrameAnswer}
 use Rattle.print_frame.specs.declared.FrameAnswer.the-variants.{Read, Refused as NotRead}
 use Rattle.print_frame.specs.Frame.{operationCode, frameOf}
 use Rattle.print_ledger.specs.declared.Ledger.{Ledger}
-use Rattle.print_ledger.specs.declared.Receipt.{Receipt}
-use Rattle.print_ledger.specs.declared.Receipt.the-variants.{Held, Cleared, NothingToClear, Refused as NotTaken}
-use Rattle.print_ledger.specs.declared.Completion.{Completion}
-use Rattle.print_ledger.specs.declared.Completion.the-variants.{Written, Refused as NotWritten}
-use Rattle.print_ledger.specs.Ledger.{fresh, takeFrame, completeInto}
+use Rattle.print_ledger.specs.Ledger.{fresh, takeFrame, completeInto, receiptRefusal, completionRefusal}
+use Rattle.refusal.specs.RefusedBy.{isRefused}
 use Rattle.octets.specs.Choice.{if_then_else_}
 
 -- a frame given to the ledger, or a completion with the output that is lent to it
@@ -61,22 +58,10 @@ unfoldable pub prints : Call → Bool
 prints (frame f) = isPrintFrame f
 prints (completion out) = false
 
--- a receipt that is a number
-unfoldable pub refusedReceipt : Receipt → Bool
-refusedReceipt Held = false
-refusedReceipt Cleared = false
-refusedReceipt NothingToClear = false
-refusedReceipt (NotTaken n) = true
-
--- a completion's answer that is a number
-unfoldable pub refusedCompletion : Completion → Bool
-refusedCompletion Written = false
-refusedCompletion (NotWritten n) = true
-
 -- a call is refused where its answer is a number
 unfoldable pub refusedCall : Ledger → Call → Bool
-refusedCall l (frame f) = refusedReceipt (takeFrame l f .receipt)
-refusedCall l (completion out) = refusedCompletion (completeInto l out .answer .completion)
+refusedCall l (frame f) = isRefused (receiptRefusal (takeFrame l f .receipt))
+refusedCall l (completion out) = isRefused (completionRefusal (completeInto l out .answer .completion))
 
 -- a call is an accepted print where it is a print and is not refused
 unfoldable pub accepts : Ledger → Call → Bool

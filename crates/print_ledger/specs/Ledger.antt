@@ -3,8 +3,6 @@
 use Prim.Native.Nat.{ℕ}
 use mathlib.Core.Bool.{true, false, not}
 use mathlib.Core.List.{List, [], _∷_}
-use lib.Dec.{ltb}
-use lib.ListN.{length}
 use Rattle.print_frame.specs.declared.Direction.the-variants.{Outbound, Inbound}
 use Rattle.print_frame.specs.declared.Operation.the-variants.{Print, Clear}
 use Rattle.print_frame.specs.declared.Frame.{Frame}
@@ -19,8 +17,10 @@ use Rattle.print_ledger.specs.declared.Completion.the-variants.{Written,
 use Rattle.print_ledger.specs.declared.Completed.{Completed}
 use Rattle.print_frame.specs.Frame.{frameOf}
 use Rattle.refusal.specs.Refusal.{noRoom, recordHeld, noneHeld, inboundFrame}
+use Rattle.refusal.specs.RefusedBy.{Refusal, noRefusal, refusedBy}
 use Rattle.octets.specs.Choice.{if_then_else_}
-use Rattle.octets.specs.Lent.{Outcome, outcome, overwrite}
+use Rattle.octets.specs.Lent.{Outcome, outcome}
+use Rattle.octets.specs.Promise.{writeFront}
 
 -- a ledger that holds nothing, and one that holds a record
 abbrev pub idle : Ledger
@@ -73,5 +73,15 @@ afterCompletion l c = record { ledger = l; completion = c }
 unfoldable pub completeInto : Ledger → List ℕ → Outcome Completed
 completeInto l out =
     if not (l .held) then outcome (afterCompletion l (NotWritten noneHeld)) out else
-    if ltb (length out) (length printComplete) then outcome (afterCompletion l (NotWritten noRoom)) out else
-    outcome (afterCompletion idle Written) (overwrite out 0 printComplete)
+    writeFront (λ _. afterCompletion idle Written) (afterCompletion l (NotWritten noRoom)) printComplete out
+
+-- the number that a receipt, or a completion, refuses by
+abbrev pub receiptRefusal : Receipt → Refusal
+receiptRefusal Held = noRefusal
+receiptRefusal Cleared = noRefusal
+receiptRefusal NothingToClear = noRefusal
+receiptRefusal (NotTaken n) = refusedBy n
+
+abbrev pub completionRefusal : Completion → Refusal
+completionRefusal Written = noRefusal
+completionRefusal (NotWritten n) = refusedBy n

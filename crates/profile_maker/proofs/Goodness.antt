@@ -7,47 +7,38 @@ use Prim.Native.Nat.{ℕ}
 use native.Mathlib.Omega.{arith}
 use borrow.Author.Tests.{not-false}
 use denote.Floats.{is-true}
-use lib.Dec.{ltb}
-use lib.ListN.{length, take, length-map}
-use Rattle.octets.specs.Promise.{writeFront}
+use lib.ListN.{take, length-map}
 use Rattle.octets.specs.Lent.{Outcome}
 use Rattle.octets.proofs.Choice.{choice}
-use Rattle.octets.proofs.Overwrite.{take-overwrite-front}
+use Rattle.refusal.specs.declared.Written.{Written}
+use Rattle.refusal.specs.declared.Written.the-variants.{Wrote}
+use Rattle.refusal.proofs.Writing.{not-wrote, wrote-front}
 use Rattle.names.specs.Name.{raised, isName, profileLimit}
 use Rattle.password_sha.specs.Sha.{isPassword}
 use Rattle.profile.specs.Profile.{shapeOf, sumOf, recordBytes}
 use Rattle.profile.specs.Table.{tableVersion}
 use Rattle.profile.specs.Theorems.{Ascending}
 use Rattle.profile.proofs.Tables.{tables-read-back}
-use Rattle.profile_maker.specs.declared.Made.{Made}
-use Rattle.profile_maker.specs.declared.Made.the-variants.{Wrote, Refused}
 use Rattle.profile_maker.specs.Made.{Making, madeProfile}
 use Rattle.profile_maker.specs.Promise.{makeInto}
 use Rattle.profile_maker.specs.Theorems.{Good, AscendingMakings, MadeRecordsAreGood, MadeTablesRead}
 use Rattle.profile_maker.proofs.Formed.{formed, size}
 
--- no refusal says that bytes were written
-never : {A : Type 0} {k n : ℕ} → Refused k ≡ Wrote n → A
-never e = let z : _≡_ {A = ℕ} 0 1 = cc in absurd (omega arith)
-
 -- what is left after an answer that n bytes were written
-abbrev GoodIfWrote : Making → ℕ → Outcome Made → Type 0
+abbrev GoodIfWrote : Making → ℕ → Outcome Written → Type 0
 GoodIfWrote m n o = o .answer ≡ Wrote n → Good m n (take n (o .lent))
 
 pub made-records-are-good : MadeRecordsAreGood
-unfolding makeInto writeFront shapeOf sumOf
+unfolding makeInto shapeOf sumOf
 made-records-are-good m out n =
-    let bytes = recordBytes (madeProfile m) in
     choice (GoodIfWrote m n) (not (isName profileLimit (m .name)))
-    (λ _ e. never e)
+    (λ _ e. not-wrote e)
     (λ named. choice (GoodIfWrote m n) (not (isPassword (m .password)))
-    (λ _ e. never e)
-    (λ _. choice (GoodIfWrote m n) (ltb (length out) (length bytes))
-    (λ _ e. never e)
+    (λ _ e. not-wrote e)
     (λ _ e.
     let good = not-false (isName profileLimit (m .name)) named in
-    let i : n ≡ length bytes = cc in
-    record { size = omega (arith, size m good); bytes = rw i (take-overwrite-front out bytes); formed = formed m good })))
+    let front = wrote-front (recordBytes (madeProfile m)) out n e in
+    record { size = omega (arith, front .0, size m good); bytes = front .1; formed = formed m good }))
 
 ascending : (before : List ℕ) (ms : List Making) → AscendingMakings before ms → Ascending (shapeOf tableVersion) before (map madeProfile ms)
 ascending before [] asc = tt

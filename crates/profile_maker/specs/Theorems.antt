@@ -5,13 +5,13 @@ use mathlib.Core.List.{List, [], _∷_, map}
 use Prim.Native.Nat.{ℕ, _+_, _≤_}
 use lib.Dec.{T}
 use lib.ListN.{length, take}
+use Rattle.refusal.specs.declared.Written.the-variants.{Wrote}
 use Rattle.names.specs.Name.{raised, isName, profileLimit}
 use Rattle.names.specs.Order.{precedes}
 use Rattle.password_sha.specs.Sha.{isPassword}
 use Rattle.profile.specs.Profile.{shapeOf, recordLength, recordBytes}
 use Rattle.profile.specs.Table.{tableVersion, profileCount, profiles, tableOf, tableBytes}
 use Rattle.profile.specs.Theorems.{WellFormed}
-use Rattle.profile_maker.specs.declared.Made.the-variants.{Wrote}
 use Rattle.profile_maker.specs.Made.{Making, madeProfile}
 use Rattle.profile_maker.specs.Promise.{makeInto}
 

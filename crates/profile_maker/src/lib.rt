@@ -12,12 +12,7 @@ ghost use Rattle.profile_maker.specs.Made.{making};
 ghost use Rattle.profile_maker.specs.Promise.{makeInto};
 ghost use Rattle.profile_maker.specs.internal.Parts.{SaysDes, laidOut};
 use password_des::Block;
-
-// How many bytes were written, or the number of a refusal.
-pub enum Made {
-    Wrote(usize),
-    Refused(u8),
-}
+use refusal::Written;
 
 // What a record says of DES: its mark and its token.
 struct DesPart {
@@ -83,22 +78,22 @@ pub fn make_record(
     enabled: bool,
     des_allowed: bool,
     out: &mut [u8],
-) -> Made
+) -> Written
     ensures { λ r. ⌜ outcome r (now (out .exit)) ≡
         makeInto (making (now (name .entry)) (now (password .entry)) enabled «des_allowed») (now (out .entry)) ⌝ }
 {
     let sha = password_sha::sha_token(name, password);
     let refusal = sha.refusal;
     if refusal != 0 {
-        return Made::Refused(refusal);
+        return Written::Refused(refusal);
     }
     let length = 32 + name.len();
     if out.len() < length {
-        return Made::Refused(refusal::NO_ROOM);
+        return Written::Refused(refusal::NO_ROOM);
     }
     let des = des_part(name, password, des_allowed);
     let des_token = des.token;
     let sha_token = sha.bytes;
     put_record(name, flags(enabled, des.allowed), des_token, sha_token, out);
-    Made::Wrote(length)
+    Written::Wrote(length)
 }

@@ -74,6 +74,12 @@ pub const NONE_HELD: u8 = 51;
 
 pub const INBOUND_FRAME: u8 = 52;
 
+// How many bytes were written to the front of a buffer, or the number of a refusal.
+pub enum Written {
+    Wrote(usize),
+    Refused(u8),
+}
+
 // Every number, in the order of the specification's table.
 pub fn table() -> [u8; 35]
     ensures { λ r. ⌜ r ≡ numbers ⌝ }

@@ -5,7 +5,7 @@
 // A line of output has the name and the answers of `find`, the length and place of the value, and of `value_of`, the
 // value. The records are those that the payloads of RFC 4777 are read to, and others for the readings of the
 // specification. `stdout` was made by a Python rendering of RFC 1572 as the specification reads it.
-use env_records::ValuePlace;
+use env_search::ValuePlace;
 use octets_part::part;
 use show_numbers::number_at;
 use show_numbers::put_numbers;
@@ -41,8 +41,8 @@ fn say_place(place: ValuePlace) {
 
 // Where the value stands, and the value.
 fn find_in(kind: usize, name: &[u8], buffer: &[u8], numbers: &[usize]) {
-    say_place(env_records::find(buffer, numbers, kind, name));
-    say_bytes(env_records::value_of(buffer, numbers, kind, name));
+    say_place(env_search::find(buffer, numbers, kind, name));
+    say_bytes(env_search::value_of(buffer, numbers, kind, name));
 }
 
 fn run_over(kind: usize, name: &[u8], buffer: &[u8], rest: &[u8]) {

@@ -6,8 +6,8 @@
 // A line of output has the name, the answer, and all that was lent, as it is after the call; it is EE before. What the
 // reader's cases read is written again; the others are for the refusals of the specification and every two faults in
 // either order. `stdout` was made by a Python rendering of RFC 1572 as the specification reads it.
-use env_writer::Written;
 use octets_part::part;
+use refusal::Written;
 use show_numbers::number_at;
 use show_numbers::put_numbers;
 

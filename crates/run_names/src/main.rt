@@ -62,7 +62,7 @@ fn put_in(text: &[u8], width: usize, at: usize, room: usize, out: &mut [u8]) {
     if out.len() < room {
         return;
     }
-    say_truth(names::put_ebcdic(text, width, &mut out[0..room], at));
+    say_truth(names_ebcdic::put_ebcdic(text, width, &mut out[0..room], at));
     say_bytes(out);
 }
 

@@ -11,10 +11,10 @@ use option_rules::Command;
 use option_rules::Sending;
 use option_rules::Side;
 use option_sides::Answered;
-use option_sides::Outgoing;
 use option_sides::Sides;
-use option_sides::Told;
-use option_sides::Whose;
+use option_verbs::Outgoing;
+use option_verbs::Told;
+use option_verbs::Whose;
 use telnet::Verb;
 
 fn say(text: &[u8]) {
@@ -49,8 +49,8 @@ fn say_command(command: Outgoing) {
 fn say_said(told: Told, option: u8) {
     let whose = told.whose;
     let command = told.command;
-    say_verb(option_sides::verb_for(whose, command));
-    say_command(option_sides::command_for(whose, option, Sending::Command(command)));
+    say_verb(option_verbs::verb_for(whose, command));
+    say_command(option_verbs::command_for(whose, option, Sending::Command(command)));
     say(b";");
 }
 
@@ -99,7 +99,7 @@ fn told_of(call: u8) -> Told {
             whose: Whose::Other,
             command: Command::On,
         },
-        _ => option_sides::told_by(verb_of(call)),
+        _ => option_verbs::told_by(verb_of(call)),
     }
 }
 

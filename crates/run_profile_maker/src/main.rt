@@ -5,7 +5,7 @@
 // A line of output is the answer and every lent byte after the call. `stdout` was computed by OpenSSL 3.0 (`des-ecb`)
 // and Python's hashlib, over a Python rendering of RFC 4777, sections 5.1 and 5.2, and of the specification ("Tokens,
 // substitutes, verdicts", "Refusal numbers" 4, 33 and 34).
-use profile_maker::Made;
+use refusal::Written;
 
 fn say_number(word: &[u8], n: usize) {
     io::write_all(1, word);
@@ -22,8 +22,8 @@ fn say_bytes(bytes: &[u8]) {
 
 fn make(name: &[u8], password: &[u8], enabled: bool, des_allowed: bool, out: &mut [u8]) {
     match profile_maker::make_record(name, password, enabled, des_allowed, out) {
-        Made::Wrote(n) => say_number(b": wrote ", n),
-        Made::Refused(n) => say_number(b": refused ", n as usize),
+        Written::Wrote(n) => say_number(b": wrote ", n),
+        Written::Refused(n) => say_number(b": refused ", n as usize),
     }
     say_bytes(out);
 }

@@ -3,7 +3,7 @@
 //
 //     l name: stream        the listing of a stream
 //     p name: count tail    the listing of FF FA 18, so many bytes 41 (two bytes say how many), and a tail
-use telnet_line::Listed;
+use refusal::Written;
 
 fn say(text: &[u8]) {
     io::write_all(1, text);
@@ -18,12 +18,12 @@ fn say_name(name: &[u8]) {
 fn list(s: &[u8]) {
     let mut out = [0u8; 512];
     match telnet_listing::list(s, &mut out) {
-        Listed::Wrote(n) => {
+        Written::Wrote(n) => {
             if n <= 512 {
                 say(&out[0..n]);
             }
         }
-        Listed::Refused(_) => {}
+        Written::Refused(_) => {}
     }
 }
 

@@ -7,9 +7,9 @@
 //     x name: kind option room          the same with 1,025 bytes 00
 //
 // A line of output names the case; what follows is the answer with the bytes of the buffer, which are 2E before.
+use refusal::Written;
 use telnet::Kind;
 use telnet::Verb;
-use telnet_writer::Written;
 
 fn say(text: &[u8]) {
     io::write_all(1, text);

@@ -1,6 +1,6 @@
--- `placed` and `hexInto` in their two cases, what a writer's answer says, and a loop that puts one piece after the
--- other. Assumes nothing.
-use mathlib.Core.Path.{_≡_, refl, sym, ap, _∙_}
+-- `placed` in its two cases, what a writer's answer says, and a loop that puts one piece after the other. Assumes
+-- nothing.
+use mathlib.Core.Path.{_≡_, sym, ap, _∙_}
 use mathlib.Core.Bool.{Bool, true, false, true≢false}
 use mathlib.Core.Logic.{_⊎_, inl, inr}
 use mathlib.Core.List.{List, [], _++_}
@@ -8,13 +8,12 @@ use Prim.Native.Nat.{ℕ, _+_, _≤_, _<_}
 use native.Mathlib.Omega.{arith}
 use borrow.Author.Tests.{le-leb, lt-leb}
 use lib.ListN.{length, length-append}
-use Rattle.octets.specs.Lent.{Outcome, outcome, overwrite}
+use Rattle.octets.specs.Lent.{outcome, overwrite}
 use Rattle.octets.specs.Promise.{putAt}
 use Rattle.octets.proofs.Promise.{put-fits, put-refused, put-whole}
 use Rattle.octets.proofs.Overwrite.{overwrite-nil, overwrite-append}
 use Rattle.octets.proofs.Order.{below-or-above}
-use Rattle.show.specs.Promise.{placed, hexInto}
-use Rattle.show.specs.Hex.{hexBytes}
+use Rattle.show.specs.Promise.{placed}
 
 pub placed-fits : (x l : List ℕ) (at : ℕ) → at + length x ≤ length l → placed x l at ≡ outcome (at + length x) (overwrite l at x)
 unfolding placed
@@ -55,11 +54,3 @@ placed-all x b at {l} {rest} {end} e h none all =
 -- a loop that puts one piece more
 pub one-more : (l : List ℕ) (at : ℕ) (x y : List ℕ) {z : List ℕ} → z ≡ x ++ y → at + length z ≤ length l → overwrite (overwrite l at x) (at + length x) y ≡ overwrite l at z
 one-more l at x y {z} e h = rw e (overwrite-append l at x y (omega (arith, simp length-append at (ap length e))))
-
-pub read-fits : (s l : List ℕ) → length (hexBytes s) ≤ length l → hexInto s l ≡ outcome (length (hexBytes s)) (overwrite l 0 (hexBytes s))
-unfolding hexInto
-read-fits s l h = rw (le-leb (length (hexBytes s)) (length l) h)
-
-pub read-refused : (s l : List ℕ) → length l < length (hexBytes s) → hexInto s l ≡ outcome 0 l
-unfolding hexInto
-read-refused s l h = rw (lt-leb (length (hexBytes s)) (length l) h)

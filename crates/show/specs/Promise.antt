@@ -5,12 +5,12 @@ use lib.Dec.{leb}
 use lib.ListN.{length}
 use Rattle.octets.specs.Choice.{if_then_else_}
 use Rattle.octets.specs.Lent.{Outcome, outcome, overwrite}
+use Rattle.octets.specs.Promise.{writeFront}
 use Rattle.show.specs.Hex.{hexBytes}
 
 -- the bytes of a text of hexadecimal digits at the front of a buffer, and how many; none where they do not fit
-unfoldable pub hexInto : List ℕ → List ℕ → Outcome ℕ
-hexInto text out =
-    if leb (length (hexBytes text)) (length out) then outcome (length (hexBytes text)) (overwrite out 0 (hexBytes text)) else outcome 0 out
+abbrev pub hexInto : List ℕ → List ℕ → Outcome ℕ
+hexInto text out = writeFront (λ n. n) 0 (hexBytes text) out
 
 -- words at a place of a buffer, and the place after them; the buffer and the place as they were where the words do not
 -- fit

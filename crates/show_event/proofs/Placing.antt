@@ -1,20 +1,21 @@
 -- An event written from a place of a line on. Assumes nothing.
 use mathlib.Core.Path.{_≡_, refl, sym, ap, subst, _∙_}
+use mathlib.Core.Bool.{not}
 use mathlib.Core.List.{List, [], _∷_, _++_, append-nil}
 use Prim.Native.Nat.{ℕ, _+_, _-_, _≤_, _<_}
 use native.Mathlib.Omega.{arith}
-use lib.Dec.{ltb}
 use lib.ListN.{length, take, drop, length-drop}
 use lib.Seq.{drop-length}
-use borrow.Author.Tests.{lt-ltb, le-ltb, ltb-false}
+use borrow.Author.Tests.{lt-ltb, le-ltb}
 use borrow.Rule.Slice.PartAt.{part-to-end}
 use borrow.Rule.Slice.PartMut.{putMid, post-is}
 use Rattle.octets.specs.Lent.{Outcome, outcome}
 use Rattle.octets.proofs.Choice.{choice}
+use Rattle.octets.proofs.Promise.{front-either}
+use Rattle.refusal.specs.declared.Written.{Written}
+use Rattle.refusal.specs.declared.Written.the-variants.{Wrote, Refused}
 use Rattle.telnet.specs.Event.{Event}
 use Rattle.telnet.specs.Write.{written, writable}
-use Rattle.telnet_writer.specs.declared.Written.{Written}
-use Rattle.telnet_writer.specs.declared.Written.the-variants.{Wrote, Refused}
 use Rattle.telnet_writer.specs.Promise.{writeOf}
 use Rattle.show_event.specs.Sent.{placeAfter, afterPlace, sentAt, sentAll}
 
@@ -47,9 +48,8 @@ Within out o = writtenLength (o .answer) ≤ length out
 write-within : (e : Event) (out : List ℕ) → Within out (writeOf e out)
 unfolding writeOf
 write-within e out =
-    choice (Within out) (writable e)
-    (λ _. choice (Within out) (ltb (length out) (length (written e))) (λ _. omega arith) (λ t. ltb-false (length out) (length (written e)) t))
-    (λ _. omega arith)
+    choice (Within out) (not (writable e)) (λ _. omega arith)
+    (λ _. front-either _ _ (written e) out (Within out) (λ _. omega arith) (λ room. room))
 
 pub wrote-within : (e : Event) (line part : List ℕ) (at : ℕ) (answer r : Written)
     → outcome answer part ≡ writeOf e (take (length line - at) (drop at line)) → answer ≡ r → writtenLength r ≤ length line - at

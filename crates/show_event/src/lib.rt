@@ -7,9 +7,9 @@ ghost use Rattle.octets.specs.Lent.{outcome};
 ghost use Rattle.telnet.specs.Event.{event};
 ghost use Rattle.telnet_reader.specs.Promise.{lookAt};
 ghost use Rattle.show_event.specs.Sent.{nextPlace, sentAt, sentAll, recordEvents};
+use refusal::Written;
 use telnet::Kind;
 use telnet_reader::Answer;
-use telnet_writer::Written;
 
 // The two ends of a session.
 pub enum Sender {

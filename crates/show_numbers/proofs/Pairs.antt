@@ -1,14 +1,11 @@
--- The laws of the numbers of pairs: how many there are, those from a place on, and `numbersInto` in its two cases.
--- Assumes nothing.
+-- The laws of the numbers of pairs: how many there are, and those from a place on. Assumes nothing.
 use mathlib.Core.Path.{_≡_, refl}
 use mathlib.Core.List.{List, [], _∷_}
 use Prim.Native.Nat.{ℕ, _+_, _/_, _≤_, _<_}
 use native.Mathlib.Omega.{arith}
-use borrow.Author.Tests.{le-leb, lt-leb}
 use lib.ListN.{length, getD, drop, length-drop}
-use Rattle.octets.specs.Lent.{outcome, overwrite}
 use Rattle.octets.proofs.Front.{empty, pair-front}
-use Rattle.show_numbers.specs.Numbers.{numberOf, numberIn, numbersOf, numbersInto}
+use Rattle.show_numbers.specs.Numbers.{numberOf, numberIn, numbersOf}
 
 pub no-pair : (s : List ℕ) → length s < 2 → numberIn s ≡ 0
 unfolding numberIn
@@ -33,11 +30,3 @@ numbers-next s i h = rw (pair-front s i h)
 -- after the last pair there are no numbers
 pub numbers-none : (s : List ℕ) (i : ℕ) → length s ≤ i + 1 → numbersOf (drop i s) ≡ []
 numbers-none s i h = empty (numbersOf (drop i s)) (rw (length-numbers, length-drop) (omega arith))
-
-pub into-fits : (s l : List ℕ) → length (numbersOf s) ≤ length l → numbersInto s l ≡ outcome (length (numbersOf s)) (overwrite l 0 (numbersOf s))
-unfolding numbersInto
-into-fits s l h = rw (le-leb (length (numbersOf s)) (length l) h)
-
-pub into-refused : (s l : List ℕ) → length l < length (numbersOf s) → numbersInto s l ≡ outcome 0 l
-unfolding numbersInto
-into-refused s l h = rw (lt-leb (length (numbersOf s)) (length l) h)

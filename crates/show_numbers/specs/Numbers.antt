@@ -1,10 +1,10 @@
 -- Numbers of two bytes, the higher first, and what the functions of this crate promise.
 use Prim.Native.Nat.{ℕ, _+_, _*_}
 use mathlib.Core.List.{List, [], _∷_}
-use lib.Dec.{leb, eqb}
-use lib.ListN.{length}
+use lib.Dec.{eqb}
 use Rattle.octets.specs.Choice.{if_then_else_}
-use Rattle.octets.specs.Lent.{Outcome, outcome, overwrite}
+use Rattle.octets.specs.Lent.{Outcome}
+use Rattle.octets.specs.Promise.{writeFront}
 
 -- the number of two bytes; FFFF stands for the largest that a machine word has
 unfoldable pub numberOf : ℕ → ℕ → ℕ
@@ -23,6 +23,5 @@ numbersOf (high ∷ []) = []
 numbersOf (high ∷ low ∷ rest) = numberOf high low ∷ numbersOf rest
 
 -- the numbers of bytes at the front of a list, and how many; none where they do not fit
-unfoldable pub numbersInto : List ℕ → List ℕ → Outcome ℕ
-numbersInto bytes list =
-    if leb (length (numbersOf bytes)) (length list) then outcome (length (numbersOf bytes)) (overwrite list 0 (numbersOf bytes)) else outcome 0 list
+abbrev pub numbersInto : List ℕ → List ℕ → Outcome ℕ
+numbersInto bytes list = writeFront (λ n. n) 0 (numbersOf bytes) list

@@ -1,4 +1,5 @@
 pub mod Digits
 pub mod Attempt
 pub mod Verdict
+pub mod Refusals
 pub mod Theorems

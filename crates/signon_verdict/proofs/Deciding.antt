@@ -11,10 +11,10 @@ use Rattle.octets.specs.Choice.{if_then_else_}
 use Rattle.env.specs.Variable.{Variable, VAR, USERVAR, Lookup, absent, present, lookup, valueOr}
 use Rattle.env.specs.Read.{says, notRead}
 use Rattle.env.specs.Numbers.{variablesHeld}
-use Rattle.env_records.specs.declared.ValuePlace.{ValuePlace}
-use Rattle.env_records.specs.Records.{placeOf}
-use Rattle.env_records.specs.Theorems.{valueAt}
-use Rattle.env_records.proofs.Found.{finds-the-value}
+use Rattle.env_search.specs.declared.ValuePlace.{ValuePlace}
+use Rattle.env_search.specs.Places.{placeOf}
+use Rattle.env_search.specs.Theorems.{valueAt}
+use Rattle.env_search.proofs.Found.{finds-the-value}
 use Rattle.names.specs.Name.{raised, isName, isRaisedName, profileLimit}
 use Rattle.names.proofs.Held.{raised-is-raised}
 use Rattle.profile.specs.Profile.{Profile, enabled}

@@ -17,7 +17,7 @@ use env::PAYLOAD_LIMIT;
 use env::RECORD_WIDTH;
 use env::USERVAR_KIND;
 use env::VAR_KIND;
-use env_records::ValuePlace;
+use env_search::ValuePlace;
 use profile_table::Entry;
 use profile_table::Found;
 use profile_table::TableCheck;
@@ -28,7 +28,7 @@ use signon::Verdict;
 fn is_there(bytes: &[u8], numbers: &[usize], kind: usize, name: &[u8]) -> bool
     ensures { λ r. ⌜ r ≡ isPresent (lookup kind (now (name .entry)) (variablesHeld (now (bytes .entry)) (now (numbers .entry)))) ⌝ }
 {
-    match env_records::find(bytes, numbers, kind, name) {
+    match env_search::find(bytes, numbers, kind, name) {
         ValuePlace::Absent => false,
         ValuePlace::At(_, _) => true,
     }
@@ -49,19 +49,19 @@ fn offer_given(bytes: &[u8], numbers: &[usize]) -> bool
 fn user_of<'a>(bytes: &'a [u8], numbers: &[usize]) -> &'a [u8]
     ensures { λ r. ⌜ now r ≡ userOf (variablesHeld (now (bytes .entry)) (now (numbers .entry))) ⌝ }
 {
-    env_records::value_of(bytes, numbers, VAR_KIND, b"USER")
+    env_search::value_of(bytes, numbers, VAR_KIND, b"USER")
 }
 
 fn seed_of<'a>(bytes: &'a [u8], numbers: &[usize]) -> &'a [u8]
     ensures { λ r. ⌜ now r ≡ seedOf (variablesHeld (now (bytes .entry)) (now (numbers .entry))) ⌝ }
 {
-    env_records::value_of(bytes, numbers, USERVAR_KIND, b"IBMRSEED")
+    env_search::value_of(bytes, numbers, USERVAR_KIND, b"IBMRSEED")
 }
 
 fn offered_of<'a>(bytes: &'a [u8], numbers: &[usize]) -> &'a [u8]
     ensures { λ r. ⌜ now r ≡ offeredOf (variablesHeld (now (bytes .entry)) (now (numbers .entry))) ⌝ }
 {
-    env_records::value_of(bytes, numbers, USERVAR_KIND, b"IBMSUBSPW")
+    env_search::value_of(bytes, numbers, USERVAR_KIND, b"IBMSUBSPW")
 }
 
 // Whether neither USERVAR is there.

@@ -6,9 +6,11 @@ use Prim.Native.Nat.{ℕ, _+_, _-_, _≤_, _<_}
 use native.Mathlib.Omega.{arith}
 use lib.ListN.{length, replicate, length-append, length-map}
 use Rattle.octets.specs.Lent.{outcome, overwrite}
-use Rattle.octets.specs.Promise.{putAt, writeFront}
+use Rattle.octets.specs.Promise.{putAt}
 use Rattle.octets.proofs.Promise.{front-short, front-fits}
+use Rattle.refusal.specs.declared.Written.the-variants.{Wrote, Refused}
 use Rattle.refusal.specs.Refusal.{noRoom, badDeviceOrSystemName}
+use Rattle.refusal.specs.Written.{writtenInto}
 use Rattle.octets.proofs.Overwrite.{overwrite-nil}
 use Rattle.octets.proofs.Pieces.{put-after}
 use Rattle.names.specs.Ebcdic.{ebcdic, blank, ebcdicOf}
@@ -18,7 +20,6 @@ use Rattle.names.proofs.Text.{length-filled}
 use Rattle.signon.specs.declared.Verdict.{Verdict}
 use Rattle.startup.specs.Response.{codeOf, fixedFields, joined, fields, responseOf}
 use Rattle.startup.proofs.Records.{length-ebcdic, length-code, length-fixed, length-response}
-use Rattle.startup_record.specs.declared.Written.the-variants.{Wrote, Refused}
 use Rattle.startup_record.specs.Promise.{respondInto}
 use Rattle.startup_record.specs.internal.Parts.{laidOut, Fits}
 
@@ -85,14 +86,14 @@ module _ (fault : Bool) (v : Verdict) (system device out : List ℕ) where
     bad-system s = rw (d, s)
 
     module _ (s : isName systemLimit system ≡ true) where
-      written : respondInto fault v system device out ≡ writeFront Wrote (Refused noRoom) (responseOf fault v system device) out
+      written : respondInto fault v system device out ≡ writtenInto (responseOf fault v system device) out
       unfolding respondInto
       written = rw (d, s)
 
       pub no-room : length out < 73 → outcome (Refused noRoom) out ≡ respondInto fault v system device out
       no-room h =
           let n = length-response fault v system device s d in
-          sym (written ∙ front-short Wrote (Refused noRoom) (responseOf fault v system device) out (omega arith))
+          sym (written ∙ front-short _ _ (responseOf fault v system device) out (omega arith))
 
       pub wrote : 73 ≤ length out → (left : List ℕ) → left ≡ overwrite out 0 (laidOut (codeOf fault v) system device)
           → outcome (Wrote 73) left ≡ respondInto fault v system device out
@@ -100,4 +101,4 @@ module _ (fault : Bool) (v : Verdict) (system device out : List ℕ) where
           let n = length-response fault v system device s d in
           let r = responseOf fault v system device in
           let put : left ≡ overwrite out 0 r = e ∙ ap (overwrite out 0) (laid-out fault v system device) in
-          rw (put, ← n) (sym (written ∙ front-fits Wrote (Refused noRoom) r out (omega arith)))
+          rw (put, ← n) (sym (written ∙ front-fits _ _ r out (omega arith)))

@@ -5,16 +5,16 @@ use mathlib.Core.List.{List}
 use Prim.Native.Nat.{ℕ}
 use Rattle.octets.specs.Choice.{if_then_else_}
 use Rattle.octets.specs.Lent.{Outcome, outcome}
-use Rattle.octets.specs.Promise.{writeFront}
-use Rattle.refusal.specs.Refusal.{noRoom, badDeviceOrSystemName}
+use Rattle.refusal.specs.declared.Written.{Written}
+use Rattle.refusal.specs.declared.Written.the-variants.{Refused}
+use Rattle.refusal.specs.Refusal.{badDeviceOrSystemName}
+use Rattle.refusal.specs.Written.{writtenInto}
 use Rattle.names.specs.Name.{isName, deviceLimit, systemLimit}
 use Rattle.signon.specs.declared.Verdict.{Verdict}
 use Rattle.startup.specs.Response.{responseOf}
-use Rattle.startup_record.specs.declared.Written.{Written}
-use Rattle.startup_record.specs.declared.Written.the-variants.{Wrote, Refused}
 
 unfoldable pub respondInto : Bool → Verdict → List ℕ → List ℕ → List ℕ → Outcome Written
 respondInto fault v system device out =
     if not (isName deviceLimit device) then outcome (Refused badDeviceOrSystemName) out else
     if not (isName systemLimit system) then outcome (Refused badDeviceOrSystemName) out else
-    writeFront Wrote (Refused noRoom) (responseOf fault v system device) out
+    writtenInto (responseOf fault v system device) out

@@ -4,16 +4,11 @@ ghost use Rattle.octets.specs.Lent.{outcome, overwrite};
 ghost use Rattle.startup.specs.Response.{codeOf, fixedFields};
 ghost use Rattle.startup_record.specs.Promise.{respondInto};
 ghost use Rattle.startup_record.specs.internal.Parts.{laidOut, Fits};
+use refusal::Written;
 use signon::Verdict;
 
 // How long a record is.
 pub const RECORD_LENGTH: usize = 73;
-
-// How many bytes were written, or the number of a refusal.
-pub enum Written {
-    Wrote(usize),
-    Refused(u8),
-}
 
 // The response code, in ASCII: a device fault outranks the verdict.
 fn code(device_fault: bool, verdict: Verdict) -> [u8; 4]
@@ -74,9 +69,9 @@ fn put_fields(code: [u8; 4], system: &[u8], device: &[u8], out: &mut [u8])
 {
     octets::put(&[0x00, 0x49, 0x12, 0xA0], out, 0);
     octets::put(&fixed_fields(code), out, 4);
-    names::put_ebcdic(&code, 4, out, 16);
-    names::put_ebcdic(system, 8, out, 20);
-    names::put_ebcdic(device, 10, out, 28);
+    names_ebcdic::put_ebcdic(&code, 4, out, 16);
+    names_ebcdic::put_ebcdic(system, 8, out, 20);
+    names_ebcdic::put_ebcdic(device, 10, out, 28);
     octets::put(&[0u8; 35], out, 38);
 }
 

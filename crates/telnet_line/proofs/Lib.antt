@@ -1,4 +1,3 @@
 pub mod Put
 pub mod Phrases
-pub mod Placing
 pub mod Few

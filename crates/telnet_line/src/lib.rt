@@ -3,16 +3,12 @@ ghost use mathlib.Core.Path.{_≡_};
 ghost use lib.ListN.{replicate};
 ghost use Rattle.octets.specs.Lent.{outcome};
 ghost use Rattle.telnet_line.specs.Line.{answerText, line as lineOf};
-ghost use Rattle.telnet_line.specs.Promise.{textOfLine, putFront};
+ghost use Rattle.telnet_line.specs.Promise.{textOfLine};
+ghost use Rattle.refusal.specs.Written.{writtenInto};
+use refusal::Written;
 use telnet_reader::Answer;
 
 mod words;
-
-// How many bytes were written, or a refusal.
-pub enum Listed {
-    Wrote(usize),
-    Refused(u8),
-}
 
 // The text of a line with zeros after it, and its length: no line is longer than 67 bytes.
 pub struct LineText {
@@ -37,15 +33,15 @@ pub fn line_text(place: usize, answer: Answer) -> LineText
 }
 
 // The line of what stands at a place, put to the front of the buffer.
-pub fn line(place: usize, answer: Answer, out: &mut [u8]) -> Listed
-    ensures { λ r. ⌜ outcome r (now (out .exit)) ≡ putFront (lineOf place (answerText answer)) (now (out .entry)) ⌝ }
+pub fn line(place: usize, answer: Answer, out: &mut [u8]) -> Written
+    ensures { λ r. ⌜ outcome r (now (out .exit)) ≡ writtenInto (lineOf place (answerText answer)) (now (out .entry)) ⌝ }
 {
     let text = line_text(place, answer);
     let bytes = text.bytes;
     let n = text.length;
     if out.len() < n {
-        return Listed::Refused(refusal::NO_ROOM);
+        return Written::Refused(refusal::NO_ROOM);
     }
     octets::put(&bytes[0..n], out, 0);
-    Listed::Wrote(n)
+    Written::Wrote(n)
 }

@@ -8,7 +8,7 @@ use lib.ListN.{length}
 use borrow.Author.Tests.{lt-ltb, le-ltb}
 use Rattle.refusal.specs.Refusal.{noRoom}
 use Rattle.octets.proofs.Order.{below-or-above}
-use Rattle.telnet_line.specs.declared.Listed.the-variants.{Wrote, Refused}
+use Rattle.refusal.specs.declared.Written.the-variants.{Wrote, Refused}
 use Rattle.telnet_listing.specs.internal.Sized.{sized}
 
 module _ (x : List ℕ) (room : ℕ) where

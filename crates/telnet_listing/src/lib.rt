@@ -4,11 +4,11 @@ ghost use mathlib.Core.Path.{_≡_};
 ghost use Prim.Native.Nat.{_≤_};
 ghost use lib.ListN.{length};
 ghost use Rattle.octets.specs.Lent.{outcome};
-ghost use Rattle.telnet_line.specs.Promise.{putFront};
+ghost use Rattle.refusal.specs.Written.{writtenInto};
 ghost use Rattle.telnet_listing.specs.Listing.{listing};
 ghost use Rattle.telnet_listing.specs.Printed.{printed, atFront};
 ghost use Rattle.telnet_listing.specs.internal.Sized.{sized};
-use telnet_line::Listed;
+use refusal::Written;
 use telnet_reader::Answer;
 
 // How many bytes may come, and room for what is printed for them.
@@ -17,7 +17,7 @@ pub const LIMIT: usize = 65536;
 pub const ROOM: usize = 13 * LIMIT + 16;
 
 // How long the whole listing is, if there is room for it. To go on past the room might wrap the sum, so it stops there.
-fn listing_length(s: &[u8], room: usize) -> Listed
+fn listing_length(s: &[u8], room: usize) -> Written
     ensures { λ r. ⌜ r ≡ sized (listing (now (s .entry))) room ⌝ }
 {
     let mut i = 0;
@@ -27,7 +27,7 @@ fn listing_length(s: &[u8], room: usize) -> Listed
         let text = telnet_line::line_text(i, answer);
         let n = text.length;
         if room - total < n {
-            return Listed::Refused(refusal::NO_ROOM);
+            return Written::Refused(refusal::NO_ROOM);
         }
         total += n;
         match answer {
@@ -39,10 +39,10 @@ fn listing_length(s: &[u8], room: usize) -> Listed
                 i = next;
             }
             Answer::End => {
-                return Listed::Wrote(total);
+                return Written::Wrote(total);
             }
             Answer::Refused(_) => {
-                return Listed::Wrote(total);
+                return Written::Wrote(total);
             }
         }
     }
@@ -81,15 +81,15 @@ fn put_lines(s: &[u8], out: &mut [u8]) -> usize
 }
 
 // The whole listing. What does not fit is not begun: the lengths are added up first.
-pub fn list(s: &[u8], out: &mut [u8]) -> Listed
-    ensures { λ r. ⌜ outcome r (now (out .exit)) ≡ putFront (listing (now (s .entry))) (now (out .entry)) ⌝ }
+pub fn list(s: &[u8], out: &mut [u8]) -> Written
+    ensures { λ r. ⌜ outcome r (now (out .exit)) ≡ writtenInto (listing (now (s .entry))) (now (out .entry)) ⌝ }
 {
     match listing_length(s, out.len()) {
-        Listed::Wrote(_) => {
-            return Listed::Wrote(put_lines(s, out));
+        Written::Wrote(_) => {
+            return Written::Wrote(put_lines(s, out));
         }
-        Listed::Refused(n) => {
-            return Listed::Refused(n);
+        Written::Refused(n) => {
+            return Written::Refused(n);
         }
     }
 }

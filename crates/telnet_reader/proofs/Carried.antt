@@ -8,10 +8,12 @@ use native.Mathlib.Omega.{arith}
 use lib.Dec.{eqb, ltb}
 use lib.ListN.{length, drop, length-append, length-drop}
 use lib.Seq.{drop-drop}
-use borrow.Author.Tests.{ltb-false, le-ltb}
+use borrow.Author.Tests.{ltb-false}
 use Rattle.octets.specs.Choice.{if_then_else_}
 use Rattle.octets.proofs.Choice.{choice}
 use Rattle.octets.specs.Lent.{Outcome, outcome, overwrite}
+use Rattle.octets.specs.Promise.{writeFront}
+use Rattle.octets.proofs.Promise.{front-fits}
 use Rattle.telnet.specs.declared.Lead.{Lead}
 use Rattle.telnet.specs.declared.Lead.the-variants.{Faulty, Opens, Negotiates, Simple}
 use Rattle.telnet_reader.specs.declared.Answer.{Answer}
@@ -102,8 +104,7 @@ Placed s at (Refused m) = Unit {0}
 -- what `read` leaves, by what `look` answers
 abbrev pub delivering : List ℕ → ℕ → List ℕ → Answer → Outcome Answer
 delivering s at out End = outcome End out
-delivering s at out (Found k n x) =
-    if ltb (length out) n then outcome (Refused noRoom) out else outcome (Found k n x) (overwrite out 0 (dataRun (drop (at + leadIn k) s)))
+delivering s at out (Found k n x) = writeFront (λ _. Found k n x) (Refused noRoom) (dataRun (drop (at + leadIn k) s)) out
 delivering s at out (Refused m) = outcome (Refused m) out
 
 module _ (s : List ℕ) (at : ℕ) where
@@ -139,6 +140,7 @@ module _ (s : List ℕ) (at : ℕ) where
   -- a run for which there is room
   pub read-run : (out : List ℕ) → 0 < count (drop at s) → count (drop at s) ≤ length out
       → readAt s at out ≡ outcome (Found Data (count (drop at s)) (at + span (drop at s))) (overwrite out 0 (dataRun (drop at s)))
+  unfolding count
   read-run out h g =
       let within : at ≤ length s = omega (arith, count-within (drop at s), length-drop at s) in
-      read-delivers out ∙ ap (delivering s at out) (look-run s at within h) ∙ rw (le-ltb (length out) (count (drop at s)) g, add-zero at)
+      read-delivers out ∙ ap (delivering s at out) (look-run s at within h) ∙ rw (add-zero at) (front-fits _ _ (dataRun (drop at s)) out g)

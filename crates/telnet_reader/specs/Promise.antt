@@ -11,8 +11,10 @@ use Rattle.telnet.specs.Event.{kind, carriedBytes}
 use Rattle.telnet.specs.Write.{written}
 use Rattle.telnet.specs.Read.{Front, noEvent, found, refused, eventOf}
 use Rattle.refusal.specs.Refusal.{noRoom, pastTheEnd}
+use Rattle.refusal.specs.RefusedBy.{Refusal, noRefusal, refusedBy}
 use Rattle.octets.specs.Choice.{if_then_else_}
-use Rattle.octets.specs.Lent.{Outcome, outcome, overwrite}
+use Rattle.octets.specs.Lent.{Outcome, outcome}
+use Rattle.octets.specs.Promise.{writeFront}
 
 -- what stands at a place, as an answer: an event takes as many bytes as it is written with
 unfoldable pub answered : ℕ → Front → Answer
@@ -28,10 +30,14 @@ lookAt s at = if ltb (length s) at then Refused pastTheEnd else answered at (eve
 unfoldable pub delivered : ℕ → Front → List ℕ → Outcome Answer
 delivered at noEvent out = outcome End out
 delivered at (refused n) out = outcome (Refused n) out
-delivered at (found e) out =
-    if ltb (length out) (length (carriedBytes e)) then outcome (Refused noRoom) out
-    else outcome (answered at (found e)) (overwrite out 0 (carriedBytes e))
+delivered at (found e) out = writeFront (λ _. answered at (found e)) (Refused noRoom) (carriedBytes e) out
 
 -- the event at a place, read
 unfoldable pub readAt : List ℕ → ℕ → List ℕ → Outcome Answer
 readAt s at out = if ltb (length s) at then outcome (Refused pastTheEnd) out else delivered at (eventOf (drop at s)) out
+
+-- the number that the reader refuses by
+abbrev pub eventRefusal : Answer → Refusal
+eventRefusal End = noRefusal
+eventRefusal (Found k n next) = noRefusal
+eventRefusal (Refused n) = refusedBy n

@@ -3,14 +3,13 @@ use mathlib.Core.Path.{_≡_, refl, sym, ap, ap₂, _∙_}
 use mathlib.Core.Bool.{Bool, true, false}
 use mathlib.Core.List.{List, [], _++_}
 use Prim.Native.Nat.{ℕ, _+_, _≤_, _<_}
-use native.Mathlib.Nat.{add-assoc, add-zero, zero-add}
+use native.Mathlib.Nat.{add-assoc, add-zero}
 use native.Mathlib.Omega.{arith}
-use lib.Dec.{ltb}
 use lib.ListN.{length, drop, length-append, length-drop}
 use lib.Seq.{drop-drop}
 use borrow.Author.Tests.{lt-ltb, le-ltb}
-use Rattle.octets.specs.Choice.{if_then_else_}
 use Rattle.octets.specs.Lent.{Outcome, outcome, overwrite}
+use Rattle.octets.specs.Promise.{writeFront}
 use Rattle.octets.proofs.Overwrite.{overwrite-append}
 use Rattle.refusal.specs.Refusal.{noRoom, pastTheEnd}
 use Rattle.telnet.specs.declared.Kind.{Kind}
@@ -246,8 +245,7 @@ module _ (s : List ℕ) (i : ℕ) (out : List ℕ) (to : ℕ) (p : CanCopy s i o
 
 -- what `read_record` leaves, by what was found
 abbrev pub keeping : List ℕ → ℕ → List ℕ → Record → Outcome Record
-keeping s at out (Complete n x) =
-    if ltb (length out) n then outcome (NoRecord noRoom) out else outcome (Complete n x) (overwrite out 0 (dataAt s at))
+keeping s at out (Complete n x) = writeFront (λ length. Complete length x) (NoRecord noRoom) (dataAt s at) out
 keeping s at out Unfinished = outcome Unfinished out
 keeping s at out (NoRecord m) = outcome (NoRecord m) out
 
@@ -261,7 +259,7 @@ module _ (s : List ℕ) (at : ℕ) where
   record-kept out h = rw (le-ltb (length s) at h) (go (recordOf (drop at s)) refl)
     where
       go : (g : Gathered) → recordOf (drop at s) ≡ g → kept at g out ≡ keeping s at out (sized 0 at g)
-      go (complete d w) e = rw (e, zero-add)
+      go (complete d w) e = rw e
       go (noRecord well) e = refl
       go (noRecord (refusal m)) e = refl
 

@@ -9,8 +9,8 @@ use native.Mathlib.Omega.{arith}
 use lib.Dec.{eqb}
 use lib.ListN.{length, set, length-append}
 use lib.Seq.{sets}
-use borrow.Author.Tests.{lt-ltb, le-ltb, le-leb, lt-leb, eqb-true, eqb-false}
-use Rattle.telnet_writer.specs.declared.Written.the-variants.{Wrote, Refused}
+use borrow.Author.Tests.{le-leb, lt-leb, eqb-true, eqb-false}
+use Rattle.refusal.specs.declared.Written.the-variants.{Wrote, Refused}
 use Rattle.telnet.specs.Event.{Event, run, subnegotiation, iac, sb, se}
 use Rattle.telnet.specs.Write.{doubled, written, writable}
 use Rattle.telnet_writer.specs.Promise.{writeOf, unwritable}
@@ -20,6 +20,7 @@ use Rattle.octets.proofs.Front.{empty}
 use Rattle.octets.proofs.Order.{below-or-above}
 use Rattle.octets.specs.Lent.{outcome, overwrite}
 use Rattle.octets.proofs.Overwrite.{length-overwrite, overwrite-append, stored, stored-pair}
+use Rattle.octets.proofs.Promise.{front-short, front-fits}
 use Rattle.refusal.specs.Refusal.{noRoom}
 
 -- doubling is a mark of 255 before each 255
@@ -74,12 +75,12 @@ module _ (e : Event) (out : List ℕ) where
 
   pub not-fitting : writable e ≡ true → length out < length (written e) → outcome (Refused noRoom) out ≡ writeOf e out
   unfolding writeOf
-  not-fitting w h = rw (w, lt-ltb (length out) (length (written e)) h)
+  not-fitting w h = rw w (sym (front-short _ _ (written e) out h))
 
   pub fitting : writable e ≡ true → length (written e) ≤ length out
       → {n : ℕ} → n ≡ length (written e) → {l : List ℕ} → l ≡ overwrite out 0 (written e) → outcome (Wrote n) l ≡ writeOf e out
   unfolding writeOf
-  fitting w h g k = rw (w, le-ltb (length out) (length (written e)) h, g, k)
+  fitting w h g k = rw (w, g, k) (sym (front-fits _ _ (written e) out h))
 
 -- a run that was put, by the place after it
 module _ (d out : List ℕ) (full : length d ≡ 0 → ⊥) (n : ℕ) (l : List ℕ) (e : outcome n l ≡ putMarked iac iac iac d out 0) where

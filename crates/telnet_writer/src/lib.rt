@@ -5,6 +5,7 @@ ghost use Rattle.telnet.specs.Event.{event, code, run, command, negotiation, su
 ghost use Rattle.telnet.specs.Write.{isSimple};
 ghost use Rattle.telnet_writer.specs.Promise.{writeOf};
 ghost use Rattle.octets.specs.Lent.{outcome};
+use refusal::Written;
 use telnet::DO;
 use telnet::DONT;
 use telnet::EOR;
@@ -16,12 +17,6 @@ use telnet::SE;
 use telnet::Verb;
 use telnet::WILL;
 use telnet::WONT;
-
-// How many bytes an event was written with, or a refusal.
-pub enum Written {
-    Wrote(usize),
-    Refused(u8),
-}
 
 fn code_of(verb: Verb) -> u8
     ensures { λ r. ⌜ r ≡ code verb ⌝ }

@@ -3,7 +3,8 @@ use Rattle.telnet.proofs.RoundTrip.{reads-back, writes-back}
 use Rattle.telnet.proofs.Writable.{read-is-writable}
 use Rattle.telnet.proofs.Unroll.{unrolled}
 use Rattle.telnet.proofs.Between.{record-is-all-data, record-reads-back}
-use Rattle.option_sides.proofs.Setting.{heard-as-said, sets-one}
+use Rattle.option_verbs.proofs.Heard.{heard-as-said}
+use Rattle.option_sides.proofs.Setting.{sets-one}
 use Rattle.option_line.proofs.Telling.{request-tells-all, receipt-tells-all}
 use Rattle.option_line.proofs.Hearing.{hear-tells, request-is-heard}
 use Rattle.env.proofs.ReadingBack.{reads-back as variables-read-back, reads-the-same}

@@ -3,7 +3,7 @@ use Rattle.octets.proofs.Equality.{same-is-equal}
 use Rattle.words.proofs.Padding.{fewest-zero-bits}
 use Rattle.env.proofs.Repeats.{is-both, among-is-occurs, repeated-is-twice}
 use Rattle.env.proofs.Boundary.{boundaries-read}
-use Rattle.env_records.proofs.Found.{finds-the-value, absent-where-none}
+use Rattle.env_search.proofs.Found.{finds-the-value, absent-where-none}
 use Rattle.names.proofs.Apart.{own-ebcdic, apart}
 use Rattle.names.proofs.Order.{strict-and-total}
 use Rattle.des.proofs.Parity.{parity-ignored}

@@ -1,7 +1,7 @@
 -- `export_env::tv_env_write` meets its contract: the numbers of what `write` answers. Assumes nothing.
 use borrow.Author.Needs.{needs}
+use Rattle.export.specs.Numbers.{writtenNumbers}
 use Rattle.export.proofs.Numbered.{by-numbers}
-use Rattle.export_env.specs.Numbers.{writtenNumbers}
 use Rattle.export_env.proofs.tv_env_write.Statement.{statement}
 use Rattle.export_env.proofs.tv_env_write.Tie as tie
 

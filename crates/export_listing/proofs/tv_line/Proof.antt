@@ -4,10 +4,9 @@ use borrow.Author.Needs.{needs}
 use mathlib.Core.Path.{ap, _∙_}
 use Rattle.telnet_reader.specs.declared.Answer.{Answer}
 use Rattle.telnet_line.specs.Line.{answerText, line}
-use Rattle.telnet_line.specs.Promise.{putFront}
-use Rattle.export.specs.Numbers.{numbered}
+use Rattle.refusal.specs.Written.{writtenInto}
+use Rattle.export.specs.Numbers.{numbered, writtenNumbers}
 use Rattle.export.proofs.Numbered.{by-numbers}
-use Rattle.export_listing.specs.Numbers.{listedNumbers}
 use Rattle.export_listing.proofs.tv_line.Statement.{statement}
 use Rattle.export_listing.proofs.tv_line.Tie as tie
 
@@ -17,8 +16,8 @@ look-requires c κs = search needs
 line-requires : tie.Need-line-requires
 line-requires c κs = search needs
 
-listed-numbers-requires : tie.Need-listed-numbers-requires
-listed-numbers-requires c κs = search needs
+written-numbers-requires : tie.Need-written-numbers-requires
+written-numbers-requires c κs = search needs
 
 same-length : tie.Need-same-length
 same-length c = search needs
@@ -26,9 +25,9 @@ same-length c = search needs
 returns : tie.Need-returns
 returns c =
     let a = c .before .before .before .before .before .before .before .before .args in
-    by-numbers listedNumbers (c .listed-numbers .ensures) (c .before .before .before .line .ensures)
-    ∙ ap (λ (x : Answer). numbered listedNumbers (putFront (line (a .at) (answerText x)) (a .out .now))) (c .before .before .before .before .before .look .ensures)
+    by-numbers writtenNumbers (c .written-numbers .ensures) (c .before .before .before .line .ensures)
+    ∙ ap (λ (x : Answer). numbered writtenNumbers (writtenInto (line (a .at) (answerText x)) (a .out .now))) (c .before .before .before .before .before .look .ensures)
 
 pub tv-line-spec : {M : Type 1} → statement M
 tv-line-spec =
-    tie.close (tie.spec look-requires line-requires listed-numbers-requires same-length returns)
+    tie.close (tie.spec look-requires line-requires written-numbers-requires same-length returns)

@@ -2,7 +2,7 @@
 use mathlib.Core.Path.{_≡_, ap, _∙_}
 use Prim.Native.Nat.{ℕ}
 use Rattle.option_rules.specs.declared.Command.{Command}
-use Rattle.option_sides.specs.declared.Whose.{Whose}
+use Rattle.option_verbs.specs.declared.Whose.{Whose}
 use Rattle.option_sides.specs.declared.Sides.{Sides}
 use Rattle.option_sides.specs.Session.{requested}
 use Rattle.export_option.specs.declared.TvSides.{TvSides}

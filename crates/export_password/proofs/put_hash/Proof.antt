@@ -1,11 +1,11 @@
 -- `export_password::put_hash` meets its contract: by the refusal, and by what `octets::put` answers. Assumes nothing.
 use borrow.Author.Needs.{needs}
-use mathlib.Core.Path.{_≡_, ap}
+use mathlib.Core.Path.{_≡_}
 use native.Mathlib.Omega.{arith}
 use lib.ListN.{length}
 use borrow.Author.Tests.{eq-eqb, ne-eqb}
+use Rattle.octets.proofs.Promise.{front-put}
 use Rattle.export_password.specs.Numbers.{shaLength, hashInto}
-use Rattle.export_password.proofs.Putting.{ending, putting}
 use Rattle.export_password.proofs.put_hash.Statement.{statement}
 use Rattle.export_password.proofs.put_hash.Tie as tie
 
@@ -27,7 +27,8 @@ unfolding hashInto
 returns-2 c =
     let a = c .before .before .before .before .before .before .before .before .args in
     let twenty : length (a .t2) ≡ shaLength = omega (arith, c .before .before .before .before .before .before .before .before .good) in
-    rw (eq-eqb (a .number) 0 (c .before .before .before .before .before .before .if1 .left), putting (a .t2) (a .out .now) twenty) (ap ending (rw (c .if2 .taken) at (c .before .before .before .put .ensures)))
+    rw (eq-eqb (a .number) 0 (c .before .before .before .before .before .before .if1 .left), ← twenty)
+    (front-put _ _ (a .t2) (a .out .now) (rw (c .if2 .taken) at (c .before .before .before .put .ensures)))
 
 same-length-2 : tie.Need-same-length-2
 same-length-2 c = search needs
@@ -36,8 +37,8 @@ returns-3 : tie.Need-returns-3
 unfolding hashInto
 returns-3 c =
     let a = c .before .before .before .before .before .before .before .before .args in
-    let twenty : length (a .t2) ≡ shaLength = omega (arith, c .before .before .before .before .before .before .before .before .good) in
-    rw (eq-eqb (a .number) 0 (c .before .before .before .before .before .before .if1 .left), putting (a .t2) (a .out .now) twenty) (ap ending (rw (c .if2 .left) at (c .before .before .before .put .ensures)))
+    rw (eq-eqb (a .number) 0 (c .before .before .before .before .before .before .if1 .left))
+    (front-put _ _ (a .t2) (a .out .now) (rw (c .if2 .left) at (c .before .before .before .put .ensures)))
 
 pub put-hash-spec : {M : Type 1} → statement M
 put-hash-spec =

@@ -1,8 +1,8 @@
 -- `export_signon::tv_response` meets its contract: the numbers of what `response` answers on the verdict that is named.
 -- Assumes nothing.
 use borrow.Author.Needs.{needs}
+use Rattle.export.specs.Numbers.{writtenNumbers}
 use Rattle.export.proofs.Numbered.{by-numbers}
-use Rattle.export_signon.specs.Numbers.{writtenNumbers}
 use Rattle.export_signon.proofs.tv_response.Statement.{statement}
 use Rattle.export_signon.proofs.tv_response.Tie as tie
 

@@ -1,12 +1,11 @@
 -- `export_telnet::tv_write` meets its contract: by whether the numbers name a kind. Assumes nothing.
 use borrow.Author.Needs.{needs}
 use mathlib.Core.Path.{_≡_, refl, sym, _∙_}
-use Rattle.export.specs.Numbers.{kindNamed}
+use Rattle.export.specs.Numbers.{kindNamed, writtenNumbers}
 use Rattle.export.specs.declared.NamedKind.the-variants.{Nothing as NoKind, Kind as IsKind}
-use Rattle.telnet_writer.specs.declared.Written.the-variants.{Refused as NotWritten}
+use Rattle.refusal.specs.declared.Written.the-variants.{Refused as NotWritten}
 use Rattle.refusal.specs.Refusal.{notWritable}
 use Rattle.export.proofs.Numbered.{by-numbers}
-use Rattle.export_telnet.specs.Numbers.{writtenNumbers}
 use Rattle.export_telnet.proofs.tv_write.Statement.{statement}
 use Rattle.export_telnet.proofs.tv_write.Tie as tie
 

@@ -10,8 +10,8 @@ use Rattle.option_rules.specs.declared.Command.the-variants.{On as on}
 use Rattle.option_rules.specs.declared.Side.{Side}
 use Rattle.option_rules.specs.declared.Side.the-variants.{Off, On, WantOff, WantOffThenOn, WantOn, WantOnThenOff}
 use Rattle.option_rules.specs.Table.{binary, terminalType, endOfRecord, newEnviron}
-use Rattle.option_sides.specs.declared.Whose.{Whose}
-use Rattle.option_sides.specs.declared.Whose.the-variants.{Ours, Other}
+use Rattle.option_verbs.specs.declared.Whose.{Whose}
+use Rattle.option_verbs.specs.declared.Whose.the-variants.{Ours, Other}
 use Rattle.option_sides.specs.declared.Sides.{Sides}
 use Rattle.option_sides.specs.Session.{allOff, sideAt}
 use Rattle.option_line.specs.declared.Sent.{Sent}

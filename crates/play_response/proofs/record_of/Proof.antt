@@ -5,6 +5,8 @@ use lib.ListN.{replicate}
 use Rattle.octets.specs.Lent.{Outcome, outcome, overwrite}
 use Rattle.octets.specs.Promise.{writeFront}
 use Rattle.octets.specs.Same.{same}
+use Rattle.refusal.specs.declared.Written.{Written}
+use Rattle.refusal.specs.declared.Written.the-variants.{Wrote}
 use Rattle.names.specs.Ebcdic.{ebcdic}
 use Rattle.names.specs.Name.{raisedByte, isNameByte, isName}
 use Rattle.names.specs.Padding.{filled as padded}
@@ -12,8 +14,6 @@ use Rattle.names.specs.Range.{every}
 use Rattle.signon.specs.declared.Verdict.{Verdict}
 use Rattle.signon.specs.declared.Verdict.the-variants.{Panel, NotKnown, Disabled, Failed, Grant}
 use Rattle.startup.specs.Response.{responseOf, fields, joined, fixedFields, codeOf}
-use Rattle.startup_record.specs.declared.Written.{Written}
-use Rattle.startup_record.specs.declared.Written.the-variants.{Wrote}
 use Rattle.startup_record.specs.Promise.{respondInto}
 use Rattle.play_response.specs.Responded.{system, device}
 use borrow.Author.Needs.{needs}

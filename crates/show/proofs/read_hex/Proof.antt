@@ -5,11 +5,11 @@ use Prim.Native.Nat.{suc, _+_, _-_, _*_, _/_, _≤_}
 use native.Mathlib.Omega.{arith}
 use borrow.Author.Needs.{needs}
 use lib.ListN.{length, getD, drop, length-set, length-drop}
-use Rattle.octets.specs.Lent.{outcome, overwrite}
+use Rattle.octets.specs.Lent.{overwrite}
 use Rattle.octets.proofs.Overwrite.{overwrite-nil, overwrite-cons}
+use Rattle.octets.proofs.Promise.{front-short, front-fits}
 use Rattle.show.specs.Hex.{byteOf, hexBytes}
 use Rattle.show.proofs.Digits.{length-bytes, bytes-next, bytes-none}
-use Rattle.show.proofs.Placing.{read-fits, read-refused}
 use Rattle.show.proofs.read_hex.Statement.{statement}
 use Rattle.show.proofs.read_hex.Tie as tie
 
@@ -24,7 +24,7 @@ abbrev μ-loop : tie.MeasureT-loop
 returns : tie.Need-returns Inv-loop μ-loop
 returns c =
     let s = c .before .before .before .args in
-    sym (read-refused (s .text .now) (s .out .now) (omega (arith, length-bytes (s .text .now))))
+    sym (front-short _ _ (hexBytes (s .text .now)) (s .out .now) (omega (arith, length-bytes (s .text .now))))
 
 loop-holds : tie.Need-loop-holds Inv-loop μ-loop
 loop-holds c = (omega arith, refl, omega arith, refl, refl)
@@ -84,7 +84,7 @@ returns-2 c =
     let long = length-bytes x in
     let none = bytes-none x (2 * l .i) (omega arith) in
     let done : l .out ≡ overwrite (s .out .now) 0 (hexBytes x) = sym (overwrite-nil (l .out) (l .i)) ∙ ap (overwrite (l .out) (l .i)) (sym none) ∙ l .inv .4 in
-    rw (← long, done) (sym (read-fits x (s .out .now) (omega arith)))
+    rw (← long, done) (sym (front-fits _ _ (hexBytes x) (s .out .now) (omega arith)))
 
 pub read-hex-spec : {M : Type 1} → statement M
 read-hex-spec =

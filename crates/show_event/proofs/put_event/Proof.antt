@@ -1,8 +1,8 @@
 -- `show_event::put_event` meets its contract: what the writer leaves stands from the place on. Assumes nothing.
 use native.Mathlib.Omega.{arith}
 use borrow.Author.Needs.{needs}
+use Rattle.refusal.specs.declared.Written.the-variants.{Wrote, Refused}
 use Rattle.telnet.specs.Event.{event}
-use Rattle.telnet_writer.specs.declared.Written.the-variants.{Wrote, Refused}
 use Rattle.show_event.proofs.Placing.{after-the-end, put-back, wrote-within}
 use Rattle.show_event.proofs.put_event.Statement.{statement}
 use Rattle.show_event.proofs.put_event.Tie as tie

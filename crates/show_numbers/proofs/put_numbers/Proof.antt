@@ -5,10 +5,11 @@ use Prim.Native.Nat.{suc, _+_, _-_, _*_, _/_, _≤_}
 use native.Mathlib.Omega.{arith}
 use borrow.Author.Needs.{needs}
 use lib.ListN.{length, drop, length-set, length-drop}
-use Rattle.octets.specs.Lent.{outcome, overwrite}
+use Rattle.octets.specs.Lent.{overwrite}
 use Rattle.octets.proofs.Overwrite.{overwrite-nil, overwrite-cons}
+use Rattle.octets.proofs.Promise.{front-short, front-fits}
 use Rattle.show_numbers.specs.Numbers.{numberIn, numbersOf}
-use Rattle.show_numbers.proofs.Pairs.{length-numbers, numbers-next, numbers-none, into-fits, into-refused}
+use Rattle.show_numbers.proofs.Pairs.{length-numbers, numbers-next, numbers-none}
 use Rattle.show_numbers.proofs.put_numbers.Statement.{statement}
 use Rattle.show_numbers.proofs.put_numbers.Tie as tie
 
@@ -23,7 +24,7 @@ abbrev μ-loop : tie.MeasureT-loop
 returns : tie.Need-returns Inv-loop μ-loop
 returns c =
     let s = c .before .before .before .args in
-    sym (into-refused (s .bytes .now) (s .numbers .now) (omega (arith, length-numbers (s .bytes .now))))
+    sym (front-short _ _ (numbersOf (s .bytes .now)) (s .numbers .now) (omega (arith, length-numbers (s .bytes .now))))
 
 loop-holds : tie.Need-loop-holds Inv-loop μ-loop
 loop-holds c = (omega arith, refl, omega arith, refl, refl)
@@ -75,7 +76,7 @@ returns-2 c =
     let none = numbers-none x (2 * l .i) (omega arith) in
     let done : l .numbers ≡ overwrite (s .numbers .now) 0 (numbersOf x) =
     sym (overwrite-nil (l .numbers) (l .i)) ∙ ap (overwrite (l .numbers) (l .i)) (sym none) ∙ l .inv .4 in
-    rw (← long, done) (sym (into-fits x (s .numbers .now) (omega arith)))
+    rw (← long, done) (sym (front-fits _ _ (numbersOf x) (s .numbers .now) (omega arith)))
 
 pub put-numbers-spec : {M : Type 1} → statement M
 put-numbers-spec =

@@ -1,6 +1,6 @@
 -- `signon_verdict::is_there` meets its contract. Assumes nothing.
 use Rattle.signon_verdict.proofs.Deciding.{there-by}
-use Rattle.env_records.specs.Theorems.{valueAt}
+use Rattle.env_search.specs.Theorems.{valueAt}
 use borrow.Author.Needs.{needs}
 use Rattle.signon_verdict.proofs.is_there.Statement.{statement}
 use Rattle.signon_verdict.proofs.is_there.Tie as tie

@@ -3,9 +3,9 @@ use mathlib.Core.Path.{_≡_, sym, ap, ap₂, _∙_}
 use native.Mathlib.Omega.{arith}
 use lib.ListN.{length}
 use Rattle.octets.specs.Lent.{outcome}
-use Rattle.telnet_line.specs.declared.Listed.the-variants.{Wrote}
+use Rattle.octets.proofs.Promise.{front-short, front-fits}
+use Rattle.refusal.specs.declared.Written.the-variants.{Wrote}
 use Rattle.telnet_line.specs.Line.{answerText, line as lineOf}
-use Rattle.telnet_line.proofs.Placing.{given-fits, given-refused}
 use Rattle.telnet_line.proofs.Few.{text-length, text-put, text-few}
 use borrow.Author.Needs.{needs}
 use Rattle.telnet_line.proofs.line.Statement.{statement}
@@ -18,7 +18,7 @@ returns : tie.Need-returns
 returns c =
     let a = c .before .before .before .before .args in
     let x = lineOf (a .place) (answerText (a .answer)) in
-    sym (given-refused x (a .out .now) (omega (arith, text-length x (c .before .before .line-text .ensures))))
+    sym (front-short _ _ x (a .out .now) (omega (arith, text-length x (c .before .before .line-text .ensures))))
 
 sub-put : tie.Need-sub-put
 sub-put c = search needs
@@ -45,7 +45,7 @@ returns-2 c =
     let x = lineOf (a .place) (answerText (a .answer)) in
     let n = text-length x (t .line-text .ensures) in
     let put = text-put x (t .line-text .ensures) (a .out .now) 0 (omega (arith, n)) (c .before .before .put .ensures) in
-    ap₂ outcome (ap Wrote n) put ∙ sym (given-fits x (a .out .now) (omega (arith, n)))
+    ap₂ outcome (ap Wrote n) put ∙ sym (front-fits _ _ x (a .out .now) (omega (arith, n)))
 
 pub line-spec : {M : Type 1} → statement M
 line-spec =

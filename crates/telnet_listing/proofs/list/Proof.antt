@@ -4,9 +4,9 @@ use Prim.Native.Nat.{ℕ}
 use lib.ListN.{length}
 use borrow.Author.Needs.{needs}
 use Rattle.octets.specs.Lent.{Outcome, outcome}
-use Rattle.telnet_line.specs.declared.Listed.the-variants.{Wrote, Refused}
+use Rattle.octets.proofs.Promise.{front-short, front-fits}
+use Rattle.refusal.specs.declared.Written.the-variants.{Wrote, Refused}
 use Rattle.telnet_listing.specs.Listing.{listing}
-use Rattle.telnet_line.proofs.Placing.{given-fits, given-refused}
 use Rattle.telnet_listing.proofs.Sized.{wrote-fits, refused-past}
 use Rattle.telnet_listing.proofs.list.Statement.{statement}
 use Rattle.telnet_listing.proofs.list.Tie as tie
@@ -35,7 +35,7 @@ returns c =
     let a = n .before .before .before .args in
     let x = listing (a .s .now) in
     let w = wrote-fits x (length (a .out .now)) (sym (n .listing-length .ensures) ∙ t .enum-told .given .1) in
-    ap (λ (o : Outcome ℕ). outcome (Wrote (o .answer)) (o .lent)) (p .put-lines .ensures) ∙ sym (given-fits x (a .out .now) (w .0))
+    ap (λ (o : Outcome ℕ). outcome (Wrote (o .answer)) (o .lent)) (p .put-lines .ensures) ∙ sym (front-fits _ _ x (a .out .now) (w .0))
 
 enum-known-n : tie.Need-enum-known-n
 enum-known-n c = search needs
@@ -45,7 +45,7 @@ returns-2 c =
     let a = c .before .before .before .before .before .before .args in
     let x = listing (a .s .now) in
     let r = refused-past x (length (a .out .now)) (sym (c .before .before .before .listing-length .ensures) ∙ c .before .n .given .1) in
-    ap (λ n. outcome (Refused n) (a .out .now)) (r .1) ∙ sym (given-refused x (a .out .now) (r .0))
+    ap (λ n. outcome (Refused n) (a .out .now)) (r .1) ∙ sym (front-short _ _ x (a .out .now) (r .0))
 
 pub list-spec : {M : Type 1} → statement M
 list-spec =

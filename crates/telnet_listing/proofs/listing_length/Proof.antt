@@ -5,7 +5,7 @@ use Prim.Native.Nat.{_+_, _-_, _≤_}
 use native.Mathlib.Omega.{arith}
 use lib.ListN.{length}
 use borrow.Author.Needs.{needs}
-use Rattle.telnet_line.specs.declared.Listed.the-variants.{Wrote}
+use Rattle.refusal.specs.declared.Written.the-variants.{Wrote}
 use Rattle.telnet_listing.specs.Listing.{listing}
 use Rattle.telnet_line.proofs.Few.{text-length}
 use Rattle.telnet_listing.proofs.Sized.{sized-fits, sized-refused}

@@ -4,8 +4,8 @@ use mathlib.Core.List.{List}
 use Prim.Native.Nat.{ℕ, _+_, _≤_}
 use native.Mathlib.Omega.{arith}
 use lib.ListN.{length, drop}
-use borrow.Author.Tests.{lt-ltb, le-ltb}
 use Rattle.octets.specs.Lent.{outcome, overwrite}
+use Rattle.octets.proofs.Promise.{front-short, front-fits}
 use Rattle.telnet.specs.declared.Kind.{Kind}
 use Rattle.telnet_reader.specs.declared.Answer.{Answer}
 use Rattle.telnet_reader.specs.declared.Answer.the-variants.{End, Found, Refused}
@@ -37,8 +37,10 @@ returns c =
     let a = c .before .before .before .before .before .before .before .args in
     let v = c .before .before .answer .given .0 in
     let e = sym (c .before .before .before .before .look .ensures) ∙ c .before .before .answer .given .1 in
-    sym (leaves (a .s .now) (a .at) (a .out .now) (Found (v .0) (v .1 .0) (v .1 .1 .0)) e
-    ∙ rw (lt-ltb (length (a .out .now)) (v .1 .0) (omega arith)))
+    let r = Found (v .0) (v .1 .0) (v .1 .1 .0) in
+    let n = placed (a .s .now) (a .at) (v .0) (v .1 .0) (v .1 .1 .0) e .1 in
+    sym (leaves (a .s .now) (a .at) (a .out .now) r e
+    ∙ front-short _ _ (dataRun (drop (a .at + leadIn (v .0)) (a .s .now))) (a .out .now) (omega (arith, n)))
 
 data-place-requires : tie.Need-data-place-requires
 data-place-requires c κs =
@@ -65,7 +67,9 @@ returns-2 c =
     let n = placed (a .s .now) (a .at) (v .0) (v .1 .0) (v .1 .1 .0) e .1 ∙ ap (λ i. length (dataRun (drop i (a .s .now)))) (sym (from .ensures)) in
     let whole = run-whole (a .s .now) (from .result) (a .out .now) 0 (c .before .before .copy-run .ensures) (omega (arith, n)) .lent in
     ap (outcome r) (whole ∙ ap (λ i. overwrite (a .out .now) 0 (dataRun (drop i (a .s .now)))) (from .ensures))
-    ∙ sym (leaves (a .s .now) (a .at) (a .out .now) r e ∙ rw (le-ltb (length (a .out .now)) (v .1 .0) (omega arith)))
+    ∙ sym (leaves (a .s .now) (a .at) (a .out .now) r e
+    ∙ front-fits _ _ (dataRun (drop (a .at + leadIn (v .0)) (a .s .now))) (a .out .now)
+    (omega (arith, placed (a .s .now) (a .at) (v .0) (v .1 .0) (v .1 .1 .0) e .1)))
 
 enum-told : tie.Need-enum-told
 enum-told c = search needs

@@ -1,15 +1,15 @@
 -- `telnet_records::read_record` meets its contract: it keeps what `find_record` finds. Assumes nothing.
-use mathlib.Core.Path.{_≡_, sym, ap, _∙_}
+use mathlib.Core.Path.{_≡_, sym, ap, ap₂, _∙_}
 use mathlib.Core.List.{List}
 use Prim.Native.Nat.{ℕ, _≤_}
 use native.Mathlib.Omega.{arith}
 use lib.ListN.{length}
-use borrow.Author.Tests.{lt-ltb, le-ltb}
 use Rattle.octets.specs.Lent.{outcome}
+use Rattle.octets.proofs.Promise.{front-short, front-fits}
 use Rattle.telnet_records.specs.declared.Record.{Record}
 use Rattle.telnet_records.specs.declared.Record.the-variants.{Complete, Unfinished, Refused}
 use Rattle.telnet_records.specs.Promise.{recordAt}
-use Rattle.telnet_records.specs.internal.Gather.{sizedAt}
+use Rattle.telnet_records.specs.internal.Gather.{sizedAt, dataAt}
 use Rattle.telnet_records.proofs.Gathering.{keeping, record-past, record-kept, found-length}
 use borrow.Author.Needs.{needs}
 use Rattle.telnet_records.proofs.read_record.Statement.{statement}
@@ -35,8 +35,9 @@ returns-2 c =
     let a = c .before .before .before .before .before .before .before .before .args in
     let v = c .before .before .length .given .0 in
     let e = sym (c .before .before .before .before .find-record .ensures) ∙ c .before .before .length .given .1 in
-    sym (leaves (a .s .now) (a .at) (a .out .now) (Complete (v .0) (v .1 .0)) (omega arith) e ∙ rw
-    (lt-ltb (length (a .out .now)) (v .0) (omega arith)))
+    let n = found-length (a .s .now) (a .at) (v .0) (v .1 .0) e in
+    sym (leaves (a .s .now) (a .at) (a .out .now) (Complete (v .0) (v .1 .0)) (omega arith) e
+    ∙ front-short _ _ (dataAt (a .s .now) (a .at)) (a .out .now) (omega (arith, n)))
 
 copy-record-requires : tie.Need-copy-record-requires
 copy-record-requires c κs =
@@ -52,11 +53,13 @@ returns-3 : tie.Need-returns-3
 returns-3 c =
     let a = c .before .before .before .before .before .before .before .before .before .before .before .before .args in
     let v = c .before .before .before .before .before .before .length .given .0 in
-    let r = Complete (v .0) (v .1 .0) in
     let e = sym (c .before .before .before .before .before .before .before .before .find-record .ensures)
     ∙ c .before .before .before .before .before .before .length .given .1 in
-    ap (outcome r) (c .before .before .copy-record .ensures)
-    ∙ sym (leaves (a .s .now) (a .at) (a .out .now) r (omega arith) e ∙ rw (le-ltb (length (a .out .now)) (v .0) (omega arith)))
+    let n = found-length (a .s .now) (a .at) (v .0) (v .1 .0) e in
+    let tell : ℕ → Record = λ length. Complete length (v .1 .0) in
+    ap₂ outcome (ap tell n) (c .before .before .copy-record .ensures)
+    ∙ sym (leaves (a .s .now) (a .at) (a .out .now) (tell (v .0)) (omega arith) e
+    ∙ front-fits _ _ (dataAt (a .s .now) (a .at)) (a .out .now) (omega (arith, n)))
 
 enum-told : tie.Need-enum-told
 enum-told c = search needs

@@ -1,0 +1,19 @@
+-- What the search in a list of variable records answers.
+use Prim.Native.Nat.{ℕ}
+use mathlib.Core.List.{List, [], _∷_}
+use Rattle.env.specs.declared.VariableRecord.{VariableRecord}
+use Rattle.env_search.specs.declared.ValuePlace.{ValuePlace}
+use Rattle.env_search.specs.declared.ValuePlace.the-variants.{Absent, At}
+use Rattle.env.specs.Variable.{is}
+use Rattle.env.specs.Numbers.{recordsOf, variableOf}
+use Rattle.octets.specs.Choice.{if_then_else_}
+
+-- where the value stands of the first variable of a kind and name, over a buffer
+unfoldable pub placeIn : ℕ → List ℕ → List ℕ → List VariableRecord → ValuePlace
+placeIn kind name bytes [] = Absent
+placeIn kind name bytes (r ∷ rs) =
+    if is kind name (variableOf bytes r) then At (r .«value_at») (r .«value_length») else placeIn kind name bytes rs
+
+-- among the records that numbers hold
+unfoldable pub placeOf : ℕ → List ℕ → List ℕ → List ℕ → ValuePlace
+placeOf kind name bytes numbers = placeIn kind name bytes (recordsOf numbers)
