@@ -68,7 +68,7 @@ extern "C" {
 
 /* The bytes end in the middle of a command or a subnegotiation. */
 #define TV_REFUSED_CUT_SHORT 1
-/* Inside a subnegotiation a 255 stands alone. */
+/* Inside a subnegotiation a 255 is alone. */
 #define TV_REFUSED_UNDOUBLED 2
 /* A payload is longer than 1,024 bytes. */
 #define TV_REFUSED_PAYLOAD_TOO_LONG 3

@@ -33,7 +33,7 @@ use Rattle.claims.specs.Refusals.{oneOf, Refuses, byReceipt}
 use Rattle.claims.proofs.OneOf.{more}
 use Rattle.claims.specs.Demand1.{line, RefusesBy, RefusesInto}
 
--- what stands at the front of bytes is refused by one of the line's numbers
+-- what is at the front of bytes is refused by one of the line's numbers
 abbrev pub ByLine : Front → Type 0
 ByLine = FrontBy (λ n. T (oneOf line n))
 

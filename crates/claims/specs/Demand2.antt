@@ -83,7 +83,7 @@ pub record Demand2 : Type 0 where
   pub exampleRead : ExampleRead
   -- "profile names not strictly ascending" are refused: so no name is there twice, and a look-up is membership;
   pub lookupIsMembership : LookupIsMembership
-  -- what the look-up answers is the profile of that name, by the place where its record stands.
+  -- what the look-up answers is the profile of that name, by the place where its record is.
   pub foundIsNamed : FoundIsNamed
   -- "The token maker takes a name, a password and two yes-or-no marks, enabled and DES allowed, and writes one record":
   -- the record of a well-formed profile; and a table of made records in ascending order reads as the profiles that were

@@ -24,7 +24,7 @@ B R K j = bitXor (group (permuted 32 E R) j) (getD K (j - 1) 0)
 unfoldable pub f : ℕ → List ℕ → ℕ
 f R K = permuted 32 P (joined 4 (map (λ j. selected (S j) (B R K j)) eight))
 
--- the preoutput block: each iteration makes R the new L, and L ⊕ f(R, K) the new R; the last R stands before the last L
+-- the preoutput block: each iteration makes R the new L, and L ⊕ f(R, K) the new R; the last R comes before the last L
 unfoldable pub preoutput : ℕ → ℕ → List (List ℕ) → ℕ
 preoutput L R [] = R * 2 ^ 32 + L
 preoutput L R (K ∷ Ks) = preoutput R (bitXor L (f R K)) Ks

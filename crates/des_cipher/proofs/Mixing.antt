@@ -26,7 +26,7 @@ chosen-at R K j h =
     let e : 1 + j ≡ suc j = omega arith in
     listed-at (λ i. selected (S i) (B R K i)) 8 1 j 0 h ∙ ap (λ (i : ℕ). selected (S i) (B R K i)) e
 
--- four bits more after the 4 * j that stand in a
+-- four bits more after the 4 * j that are in a
 pub after : (a s j : ℕ) → a < 2 ^ (4 * j) → j < 8 → s < 16 → bitOr (a * 2 ^ 4 % 2 ^ 64) s ≡ a * 2 ^ 4 + s
 after a s j h i k =
     let small : a < 2 ^ 28 = lt-of-lt-of-le h (pow-mono {i = 4 * j} {j = 28} (omega arith)) in

@@ -1,4 +1,4 @@
--- The S boxes: they look at six bits only and give four; and what stands at a place of their array. Assumes nothing.
+-- The S boxes: they look at six bits only and give four; and what is at a place of their array. Assumes nothing.
 use mathlib.Core.Path.{_≡_, ap, ap₂, sym, _∙_}
 use Prim.Native.Nat.{ℕ, zero, suc, _+_, _*_, _/_, _%_, _^_, _<_}
 use native.Mathlib.Nat.{add-zero, zero-add, add-suc, suc-add, not-suc-le-zero, le-of-suc-le-suc}

@@ -517,7 +517,7 @@ const BOXES: [u8; 512] = [
     11,
 ];
 
-// What S box j + 1 gives for six bits b stands at 64 * j + b. An array is laid out in the frame of whoever names it: so
+// What S box j + 1 gives for six bits b is at 64 * j + b. An array is laid out in the frame of whoever names it: so
 // it is made once for a chain, and lent to the rounds.
 pub(crate) fn boxes() -> [u8; 512]
     ensures { λ r. ⌜ r ≡ boxArray ⌝ }

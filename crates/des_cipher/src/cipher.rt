@@ -30,7 +30,7 @@ fn boxed(boxes: &[u8; 512], e: u64, keys: &[[u8; 8]; 16], i: usize, j: usize) ->
     boxes[64 * j + (b as usize)]
 }
 
-// The permutation P: bits that move by the same distance move together, in a circle, since the word stands there twice.
+// The permutation P: bits that move by the same distance move together, in a circle, since the word is there twice.
 fn permute_p(word: u64) -> u64
     requires { ⌜ word < 2 ^ 32 ⌝ }
     ensures { λ r. ⌜ r ≡ permuted 32 P word ⌝ }

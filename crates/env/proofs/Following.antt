@@ -105,7 +105,7 @@ module _ (N : ℕ → Type 0) (C : Type 0) (M : ℕ → Type 0) (same : (n : ℕ
       → Follows (limited k (whole t (named f))) (limited k (whole t (named g)))
   opened k t f g h = in-limited k _ _ (in-whole t _ _ (in-named f g h))
 
-  -- a name with nothing after it, and whatever stands there instead
+  -- a name with nothing after it, and whatever is there instead
   alone : (t : Text) (number k kind : ℕ) (y : Row)
       → (k < variableLimit
       → Follows (whole t (named (λ name. variables (variable kind name [] ∷ [])))) (fromName number k kind y))

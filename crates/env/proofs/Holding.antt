@@ -30,7 +30,7 @@ recorded-before at (v ∷ vs) l =
     let next = at + length (v .name) + length (v .value) in
     rw records-cons (records-before _ _ (recorded-before next vs l))
 
--- a list that begins with a ++ b: a stands in front, and b after it
+-- a list that begins with a ++ b: a is in front, and b after it
 part-apart : (bytes : List ℕ) (at : ℕ) (a b : List ℕ) → part bytes at (length (a ++ b)) ≡ a ++ b
     → (part bytes at (length a) ≡ a) × (part bytes (at + length a) (length b) ≡ b)
 unfolding part

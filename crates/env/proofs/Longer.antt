@@ -1,4 +1,4 @@
--- What more bytes do to a row: all stays but the last text, which goes on (`parted`). An ESC that stands last waits for
+-- What more bytes do to a row: all stays but the last text, which goes on (`parted`). An ESC that comes last waits for
 -- the byte after it. Assumes nothing.
 use mathlib.Core.Path.{_≡_, refl, sym, ap, _∙_}
 use mathlib.Core.List.{List, [], _∷_, _++_, append-nil}

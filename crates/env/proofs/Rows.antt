@@ -1,5 +1,5 @@
 -- The laws of `rowOf` and `escaped`: what each byte in front makes of the row after it, and that a text with its ESCs
--- stands there without them. Assumes nothing.
+-- is there without them. Assumes nothing.
 use mathlib.Core.Path.{_≡_, refl, ap, _∙_}
 use mathlib.Core.List.{List, [], _∷_, _++_}
 use mathlib.Core.Logic.{⊎-elim}
@@ -65,7 +65,7 @@ pub escaped-plain : (b : ℕ) (bs : List ℕ) → 3 < b → escaped (b ∷ bs) �
 unfolding escaped
 escaped-plain b bs h = rw lt-leb
 
--- what it wrote stands there without its ESCs
+-- what it wrote is there without its ESCs
 pub row-escaped : (bs rest : List ℕ) → rowOf (escaped bs ++ rest) ≡ prefixed bs (rowOf rest)
 unfolding prefixed
 row-escaped [] rest = rw escaped-nil

@@ -1,4 +1,4 @@
--- Inputs at the boundaries between refusals, each with its reading: where two faults stand in one payload, where a name
+-- Inputs at the boundaries between refusals, each with its reading: where two faults are in one payload, where a name
 -- ends at once, and at the 64th and 65th variable. `proofs/Boundary.antt` proves them, as one theorem over the list.
 use mathlib.Core.Path.{_≡_}
 use mathlib.Core.List.{List, [], _∷_, _++_}

@@ -1,4 +1,4 @@
--- The part of a payload after its first byte is a row of fields: a VAR, VALUE or USERVAR that no ESC stands before, and
+-- The part of a payload after its first byte is a row of fields: a VAR, VALUE or USERVAR that no ESC comes before, and
 -- the text after it, a name or a value without its ESCs.
 use Prim.Native.Nat.{ℕ, zero, suc}
 use mathlib.Core.List.{List, [], _∷_}
@@ -45,7 +45,7 @@ startsName b r = row (text []) (nameField b (r .front) ∷ r .fields)
 unfoldable pub startsValue : Row → Row
 startsValue r = row (text []) (valueField (r .front) ∷ r .fields)
 
--- bytes as a row: VAR, VALUE, ESC, USERVAR, and bytes above 3, which stand plain
+-- bytes as a row: VAR, VALUE, ESC, USERVAR, and bytes above 3, which are plain
 unfoldable pub rowOf : List ℕ → Row
 rowOf [] = row (text []) []
 rowOf (zero ∷ bs) = startsName VAR (rowOf bs)

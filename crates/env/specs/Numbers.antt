@@ -56,11 +56,11 @@ abbrev pub variableOf : List ℕ → VariableRecord → Variable
 variableOf bytes r = variable (r .kind) (part bytes (r .«name_at») (r .«name_length»)) (part bytes (r .«value_at») (r .«value_length»))
 
 -- the variables that records have over a buffer
-unfoldable pub variablesHeld : List ℕ → List ℕ → List Variable
+unfoldable pub variablesHeld : (bytes numbers : List ℕ) → List Variable
 variablesHeld bytes numbers = map (variableOf bytes) (recordsOf numbers)
 
 -- a place with its length does not run past a buffer
-unfoldable pub fits : List ℕ → ℕ → ℕ → Bool
+unfoldable pub fits : List ℕ → (at n : ℕ) → Bool
 fits bytes at n = leb (at + n) (length bytes)
 
 -- a record is a VAR or a USERVAR, and its name and value are in the buffer
@@ -73,5 +73,5 @@ allPlaced bytes [] = true
 allPlaced bytes (r ∷ rs) = isPlaced bytes r && allPlaced bytes rs
 
 -- and so of the records that numbers hold
-unfoldable pub placed : List ℕ → List ℕ → Bool
+unfoldable pub placed : (bytes numbers : List ℕ) → Bool
 placed bytes numbers = allPlaced bytes (recordsOf numbers)

@@ -34,11 +34,11 @@ unfoldable pub named : (List ℕ → Found) → List ℕ → Found
 named found [] = fault noVariable
 named found (b ∷ bs) = found (b ∷ bs)
 
--- The variables of fields, where there are k already. A VALUE where a name should stand is refused by the number given:
--- 21 before the first variable and after one without a value, 23 after a value. Else a name stands there, and after it
+-- The variables of fields, where there are k already. A VALUE where a name should be is refused by the number given:
+-- 21 before the first variable and after one without a value, 23 after a value. Else a name is there, and after it
 -- its value, nothing more, or the next name; from left to right its 24, 22 and 21 come first, then its value's 22, then
 -- what is after it.
-unfoldable pub names : ℕ → ℕ → List Field → Found
+unfoldable pub names : (number k : ℕ) → List Field → Found
 names number k [] = variables []
 names number k (valueField t ∷ fs) = fault number
 names number k (nameField kind t ∷ valueField u ∷ fs) =
@@ -47,7 +47,7 @@ names number k (nameField kind t ∷ []) = limited k (whole t (named (λ name. a
 names number k (nameField kind t ∷ nameField kind₂ u ∷ fs) =
     limited k (whole t (named (λ name. addVariable (variable kind name []) (names noVariable (suc k) (nameField kind₂ u ∷ fs)))))
 
--- Where a variable is expected no text stands, an ESC neither. Decides 21 for what stands before the first.
+-- Where a variable is expected there is no text, nor an ESC. Decides 21 for what comes before the first.
 unfoldable pub expectNoText : Text → Found → Found
 expectNoText broken found = fault noVariable
 expectNoText (text []) found = found

@@ -35,7 +35,7 @@ pub record Variable : Type 0 where
   pub name : List ℕ
   pub value : List ℕ
 
-abbrev pub variable : ℕ → List ℕ → List ℕ → Variable
+abbrev pub variable : ℕ → (n v : List ℕ) → Variable
 variable k n v = record { kind = k; name = n; value = v }
 
 unfoldable pub isKind : ℕ → Bool

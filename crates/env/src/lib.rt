@@ -16,7 +16,7 @@ pub const ESC: u8 = 2;
 
 pub const USERVAR: u8 = 3;
 
-// A variable record: VAR or USERVAR, and where its name and its value stand in a buffer.
+// A variable record: VAR or USERVAR, and where its name and its value are in a buffer.
 pub struct VariableRecord {
     pub kind: usize,
     pub name_at: usize,

@@ -22,11 +22,11 @@ pub record Delivery : Type 0 where
   pub bytes : List ℕ
   pub numbers : List ℕ
 
-abbrev pub delivery : Answer → List ℕ → List ℕ → Delivery
+abbrev pub delivery : Answer → (b n : List ℕ) → Delivery
 delivery a b n = record { answer = a; bytes = b; numbers = n }
 
 -- a reading, with names and values put into the buffer and their places into the list
-unfoldable pub delivered : Reading → List ℕ → List ℕ → Delivery
+unfoldable pub delivered : Reading → (bytes numbers : List ℕ) → Delivery
 delivered (notRead n) bytes numbers = delivery (Refused n) bytes numbers
 delivered (says first vs) bytes numbers =
     if ltb (length bytes) (length (packed vs)) then delivery (Refused noRoom) bytes numbers else
@@ -34,24 +34,24 @@ delivered (says first vs) bytes numbers =
     delivery (Read first (length vs) (length (packed vs))) (overwrite bytes 0 (packed vs)) (overwrite numbers 0 (recorded 0 vs))
 
 -- a payload, read
-abbrev pub readInto : List ℕ → List ℕ → List ℕ → Delivery
+abbrev pub readInto : (payload bytes numbers : List ℕ) → Delivery
 readInto payload bytes numbers = delivered (readingOf payload) bytes numbers
 
--- what stands after the first byte of a payload, read
-unfoldable pub readAfter : ℕ → List ℕ → List ℕ → List ℕ → Delivery
+-- what comes after the first byte of a payload, read
+unfoldable pub readAfter : ℕ → (rest bytes numbers : List ℕ) → Delivery
 readAfter first rest bytes numbers =
     if ltb payloadLimit (length (first ∷ rest)) then delivery (Refused payloadTooLong) bytes numbers
     else delivered (distinct first (variablesOf (rowOf rest))) bytes numbers
 
 -- texts and records that were read, handed over where there is room for both
-unfoldable pub handOver : ℕ → List ℕ → List ℕ → List ℕ → List ℕ → Delivery
+unfoldable pub handOver : ℕ → (texts records bytes numbers : List ℕ) → Delivery
 handOver first texts records bytes numbers =
     if ltb (length bytes) (length texts) then delivery (Refused noRoom) bytes numbers else
     if ltb (length numbers) (length records) then delivery (Refused noRoom) bytes numbers else
     delivery (Read first (length records / recordWidth) (length texts)) (overwrite bytes 0 texts) (overwrite numbers 0 records)
 
 -- handed over unless a variable is there twice
-unfoldable pub deliverRead : ℕ → List ℕ → List ℕ → List ℕ → List ℕ → Delivery
+unfoldable pub deliverRead : ℕ → (texts records bytes numbers : List ℕ) → Delivery
 deliverRead first texts records bytes numbers =
     if repeated (variablesHeld texts records) then delivery (Refused repeatedVariable) bytes numbers else handOver first texts records bytes numbers
 

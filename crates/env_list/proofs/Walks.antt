@@ -71,7 +71,7 @@ Out κ q γ ys i d b o Γ =
     ∷ ‵ (fobor κ q (Held T.the-row (length ys) b o γ)) ∷ ‵ (says-list γ ys) ∷ ‵ (fauth γ (codedHoleys T.the-row .code (heres T.the-row ys))) ∷ Γ
 
 module _ {M : Type 1} {𝓤 : URA M} {H : Heap 𝓤} {A : Atoms 𝓤} {K : Type 0} {W : Given 𝓤 H A} {Γ : List (Item 𝓤)} where
-  -- the value of a local, whose cell stands at n in the context
+  -- the value of a local, whose cell is at n in the context
   pub local : K → {E : Env 𝓤 H} {i : ℕ} (n : ℕ) {q : Share} {v : Val} → nth 𝓤 H A n Γ ≡ ‵ (fat q (spotOf 𝓤 H E i .0) (spotOf 𝓤 H E i .1) (spotOf 𝓤 H E i .2) v)
       → Opd K W Γ E (copy (at-place i [])) v
   local t n e = load t (from t (stop t)) (look t n e)
@@ -81,7 +81,7 @@ module _ {M : Type 1} {𝓤 : URA M} {H : Heap 𝓤} {A : Atoms 𝓤} {K : Type 
       → Part K W (nth 𝓤 H A n Γ) q τ (spotOf 𝓤 H E i .1) (spotOf 𝓤 H E i .2 + d) v back → Opd K W Γ E (copy (at-place i (field k ∷ []))) v
   field-of t n e part = load t (from t (fld t e (stop t))) (look-in t n part)
 
-  -- a local's first value, where its room stands at n
+  -- a local's first value, where its room is at n
   pub lets : K → {C : Calls 𝓤 H} {Λ : Loops 𝓤 H} {E : Env 𝓤 H} {Q : Post 𝓤 H} {i : ℕ} {rv : RValue} {rest : Body} {v : Val} (n : ℕ)
       → nth 𝓤 H A n Γ ≡ ‵ (froom (spotOf 𝓤 H E i .0) (spotOf 𝓤 H E i .1) (spotOf 𝓤 H E i .2)) → Rv K W Γ E rv v → Holds (hasTy (spotOf 𝓤 H E i .0) v) × WT v
       → Step K W (put 𝓤 H A n (‵ (fat fullShare (spotOf 𝓤 H E i .0) (spotOf 𝓤 H E i .1) (spotOf 𝓤 H E i .2) v)) Γ) (runs C Λ E rest Q)

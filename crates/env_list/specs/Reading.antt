@@ -25,5 +25,5 @@ listed (says first vs) bytes list =
     (recordsOf (recorded 0 vs) ++ drop (length vs) list)
 
 -- a payload, read
-abbrev pub readRecords : List ℕ → List ℕ → List VariableRecord → Listing (Outcome Answer)
+abbrev pub readRecords : (payload bytes : List ℕ) → List VariableRecord → Listing (Outcome Answer)
 readRecords payload bytes list = listed (readingOf payload) bytes list

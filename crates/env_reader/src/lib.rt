@@ -1,5 +1,5 @@
 // Environment strings: reading a payload of NEW-ENVIRON. What is right is said in the crate `env`; what is answered,
-// and left in buffer and list, in the crate `env_delivery`. Here its first byte is read; what stands after it is read
+// and left in buffer and list, in the crate `env_delivery`. Here its first byte is read; what comes after it is read
 // in the crate `env_variables`.
 ghost use mathlib.Core.Path.{_≡_};
 ghost use Rattle.env_delivery.specs.Promise.{delivery, readInto};

@@ -8,12 +8,12 @@ use Rattle.env.specs.Variable.{is}
 use Rattle.env.specs.Numbers.{recordsOf, variableOf}
 use Rattle.octets.specs.Choice.{if_then_else_}
 
--- where the value stands of the first variable of a kind and name, over a buffer
-unfoldable pub placeIn : ℕ → List ℕ → List ℕ → List VariableRecord → ValuePlace
+-- the place of the value of the first variable of a kind and name, over a buffer
+unfoldable pub placeIn : ℕ → (name bytes : List ℕ) → List VariableRecord → ValuePlace
 placeIn kind name bytes [] = Absent
 placeIn kind name bytes (r ∷ rs) =
     if is kind name (variableOf bytes r) then At (r .«value_at») (r .«value_length») else placeIn kind name bytes rs
 
 -- among the records that numbers hold
-unfoldable pub placeOf : ℕ → List ℕ → List ℕ → List ℕ → ValuePlace
+unfoldable pub placeOf : ℕ → (name bytes numbers : List ℕ) → ValuePlace
 placeOf kind name bytes numbers = placeIn kind name bytes (recordsOf numbers)

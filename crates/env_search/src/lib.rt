@@ -11,7 +11,7 @@ use env::RECORD_WIDTH;
 use env::VariableRecord;
 use env_records::record_at;
 
-// Where a value stands in a buffer, and its length.
+// The place of a value in a buffer, and its length.
 pub enum ValuePlace {
     Absent,
     At(usize, usize),
@@ -27,7 +27,7 @@ fn is_of(bytes: &[u8], v: VariableRecord, kind: usize, name: &[u8]) -> bool
     octets::same(name, octets_part::part(bytes, v.name_at, v.name_length))
 }
 
-// Where the value stands of the first record of a kind and name.
+// The place of the value of the first record of a kind and name.
 pub fn find(bytes: &[u8], numbers: &[usize], kind: usize, name: &[u8]) -> ValuePlace
     ensures { λ r. ⌜ r ≡ placeOf kind (now (name .entry)) (now (bytes .entry)) (now (numbers .entry)) ⌝ }
 {

@@ -1,4 +1,4 @@
--- Laws of a name or a value at the front of bytes: by the bytes that stand there, and what the row of the bytes says of
+-- Laws of a name or a value at the front of bytes: by the bytes that are there, and what the row of the bytes says of
 -- it. Assumes nothing.
 use mathlib.Core.Path.{_≡_, refl, sym, ap, _∙_}
 use mathlib.Core.Bool.{Bool, true, false}
@@ -96,7 +96,7 @@ module _ (s : List ℕ) (i : ℕ) where
   pub marked-other : i < length s → (getD s i 0 ≡ 2 → ⊥) → endsText (drop i s) ≡ leb (getD s i 0) 3
   marked-other h n = rw (at-front s i h) (mark-other (getD s i 0) (drop (i + 1) s) n)
 
--- a byte of the text stands at a place
+-- a byte of the text is at a place
 pub record Next (s : List ℕ) (i w : ℕ) : Type 0 where
   pub byte : textOf (drop i s) .bytes ≡ getD s (i + w - 1) 0 ∷ textOf (drop (i + w) s) .bytes
   pub after : textOf (drop (i + w) s) .after ≡ textOf (drop i s) .after
@@ -124,7 +124,7 @@ next s i w is h =
 pub ended : (s : List ℕ) (i w : ℕ) → IsWidth s i w → w ≡ 0 → Ended s i
 ended s i w is z = record { none = ap bytesOf (is .over z); rest = ap afterOf (sym (is .over z)) }
 
--- what stands from a place on, by its extent
+-- what is there from a place on, by its extent
 pub text-found : (s : List ℕ) (from : ℕ) (e : Extent) (w : Bool) → IsExtent s from e → w ≡ endsText (drop (e .end) s)
     → record { whole = w; length = e .length; end = e .end } ≡ textAt s from
 unfolding textAt
@@ -133,7 +133,7 @@ text-found s from e w is m =
     let end : e .end ≡ length s - length (textOf (drop from s) .after) = omega (arith, left, is .within) in
     rw (m, is .rest, is .count, end)
 
--- past the end no text stands
+-- past the end there is no text
 pub text-past : (s : List ℕ) (from : ℕ) → length s ≤ from → record { whole = true; length = 0; end = length s } ≡ textAt s from
 unfolding textAt textOf endsText
 text-past s from h =

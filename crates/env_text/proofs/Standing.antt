@@ -1,4 +1,4 @@
--- Laws of a text that stands in a payload: it is the text at the front of the row of the bytes, whole or broken, and it
+-- Laws of a text in a payload: it is the text at the front of the row of the bytes, whole or broken, and it
 -- ends within the payload. By induction on the bytes. Assumes nothing.
 use mathlib.Core.Path.{_≡_, refl, sym, ap, _∙_}
 use mathlib.Core.Bool.{Bool, true, false}
@@ -13,7 +13,7 @@ use Rattle.env_text.specs.Text.{withByte, textOf, endsText, textAt}
 use Rattle.env.specs.Fields.{Text, text, broken, Row, row, rowOf, joins, stands, startsName, startsValue}
 use Rattle.env.proofs.Rows.{row-escape, row-bad-escape}
 
--- where nothing or a mark stands, no text does
+-- where there is nothing, or a mark, there is no text
 pub row-marked : (l : List ℕ) → endsText l ≡ true → rowOf l .front ≡ text []
 unfolding endsText rowOf startsName startsValue
 row-marked [] m = refl

@@ -8,13 +8,13 @@ use Rattle.env_text.specs.declared.Text.{Text}
 use Rattle.octets.specs.Choice.{if_then_else_}
 use Rattle.octets.specs.Lent.{Outcome, outcome, overwrite}
 
--- the bytes of the text without their ESCs, and what stands after it
+-- the bytes of the text without their ESCs, and what comes after it
 pub record Cut : Type 0 where
   pub bytes : List ℕ
   pub after : List ℕ
 
--- a text of some bytes, and what stands after it
-abbrev pub cut : List ℕ → List ℕ → Cut
+-- a text of some bytes, and what comes after it
+abbrev pub cut : (bs l : List ℕ) → Cut
 cut bs l = record { bytes = bs; after = l }
 
 -- a byte more
@@ -31,7 +31,7 @@ textOf (suc (suc zero) ∷ b ∷ bs) = if leb b 3 then withByte b (textOf bs) el
 textOf (suc (suc (suc zero)) ∷ bs) = cut [] (suc (suc (suc zero)) ∷ bs)
 textOf (suc (suc (suc (suc b))) ∷ bs) = withByte (suc (suc (suc (suc b)))) (textOf bs)
 
--- after a text that is whole stands nothing, or a VAR, VALUE or USERVAR
+-- after a text that is whole comes nothing, or a VAR, VALUE or USERVAR
 unfoldable pub endsText : List ℕ → Bool
 endsText [] = true
 endsText (zero ∷ bs) = true
@@ -40,7 +40,7 @@ endsText (suc (suc zero) ∷ bs) = false
 endsText (suc (suc (suc zero)) ∷ bs) = true
 endsText (suc (suc (suc (suc b))) ∷ bs) = false
 
--- the text from a place on: whole, where nothing stands after it, or a VAR, VALUE or USERVAR; its length, and the place
+-- the text from a place on: whole, where nothing comes after it, or a VAR, VALUE or USERVAR; its length, and the place
 -- after it
 unfoldable pub textAt : List ℕ → ℕ → Text
 textAt s from =
@@ -49,6 +49,6 @@ textAt s from =
 
 -- the first bytes of a text, put at a place of a buffer; where there is no room for them a refusal, and the buffer is
 -- as it was
-unfoldable pub copyText : List ℕ → ℕ → ℕ → List ℕ → ℕ → Outcome Bool
+unfoldable pub copyText : (s : List ℕ) (from count : ℕ) (out : List ℕ) (at : ℕ) → Outcome Bool
 copyText s from count out at =
     if leb (at + count) (length out) then outcome true (overwrite out at (take count (textOf (drop from s) .bytes))) else outcome false out

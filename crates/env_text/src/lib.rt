@@ -44,7 +44,7 @@ fn width_at(s: &[u8], i: usize) -> usize
     2
 }
 
-// Whether nothing stands at a place, or a VAR, VALUE or USERVAR.
+// Whether there is nothing at a place, or a VAR, VALUE or USERVAR.
 fn ends_text(s: &[u8], i: usize) -> bool
     ensures { λ r. ⌜ r ≡ endsText (drop i (now (s .entry))) ⌝ }
 {

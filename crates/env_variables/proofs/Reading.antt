@@ -57,7 +57,7 @@ name-variables (variables vs) count used before r after is e =
       read,
     )
 
--- what the reader delivers, by what stands after the first byte
+-- what the reader delivers, by what comes after the first byte
 module _ (first : ℕ) (rest bytes numbers : List ℕ) where
   pub long-after : payloadLimit ≤ length rest → delivery (Refused payloadTooLong) bytes numbers ≡ readAfter first rest bytes numbers
   unfolding readAfter

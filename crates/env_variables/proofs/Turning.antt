@@ -178,7 +178,7 @@ name-turn number at k l bytes₀ bytes₁ numbers₀ t r bytes numbers is w n h 
     from-kind number k l h e ∙ ap (λ q. names number k (nameField kind (q .front) ∷ q .fields)) (is .good w) ∙ names-turn-of number k kind name fs g some in
     rw found (with-name kind name (fromValue k fs) at k bytes₀ numbers₀ r bytes numbers (rw (← is .texts w, ← is .count) more) fit)
 
--- where no text stands, the name reader's finding is that of the fields
+-- where there is no text, the name reader's finding is that of the fields
 from-marked : (number k : ℕ) (l : List ℕ) → endsText l ≡ true → fromName number k (rowOf l) ≡ names number k (rowOf l .fields)
 unfolding expectNoText
 from-marked number k l m = rw (row-marked l m)
@@ -205,7 +205,7 @@ unfolding givesValue rowOf startsValue
 value-of k [] e = cc
 value-of k (b ∷ bs) e = rw (eqb-true b 1 e)
 
--- what the name reader finds where no text stands, one variable further
+-- what the name reader finds where there is no text, one variable further
 next-name : (k : ℕ) (l : List ℕ) → endsText l ≡ true → names valueInValue (suc k) (rowOf l .fields) ≡ fromName valueInValue (k + 1) (rowOf l)
 next-name k l m = ap (λ i. names valueInValue i (rowOf l .fields)) (sym (add-one k)) ∙ sym (from-marked valueInValue (k + 1) l m)
 

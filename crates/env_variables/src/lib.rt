@@ -50,7 +50,7 @@ fn opens(b: u8) -> bool
     is_kind(b as usize)
 }
 
-// Whether a VALUE stands at the front.
+// Whether a VALUE is at the front.
 fn gives_value(rest: &[u8]) -> bool
     ensures { λ r. ⌜ r ≡ givesValue (now (rest .entry)) ⌝ }
 {
@@ -70,7 +70,7 @@ fn take_text(rest: &[u8], bytes: &mut [u8], at: usize) -> Text
     t
 }
 
-// Puts the value after a name at a place of the buffer; where no VALUE stands, it is empty and takes nothing of the
+// Puts the value after a name at a place of the buffer; where there is no VALUE, it is empty and takes nothing of the
 // rest.
 fn take_value(rest: &[u8], bytes: &mut [u8], at: usize) -> Text
     requires { ⌜ (endsText (now rest) ≡ true) × (at + length (now rest) ≤ length (now bytes)) ⌝ }
@@ -134,7 +134,7 @@ fn name(
 }
 
 // The value of a name that has been read. After a value a VALUE is a fault; after a name without one it cannot be what
-// stands next.
+// comes next.
 fn value(
     rest: &[u8],
     kind: u8,
@@ -167,7 +167,7 @@ fn value(
     )
 }
 
-// Finds the variables of what stands after the first byte of a payload. Names and values without their ESCs go back to
+// Finds the variables of what comes after the first byte of a payload. Names and values without their ESCs go back to
 // back into the buffer, and their records into the list: room for as many as a payload can hold.
 fn find_variables(
     rest: &[u8],
@@ -183,7 +183,7 @@ fn find_variables(
     name(rest, NO_VARIABLE, texts, 0, records, 0)
 }
 
-// Reads what stands after the first byte of a payload, and delivers its variables. Names and values without their ESCs
+// Reads what comes after the first byte of a payload, and delivers its variables. Names and values without their ESCs
 // go back to back into the buffer, and their records into the list, when nothing can be refused any more.
 pub fn read_variables(first: u8, rest: &[u8], bytes: &mut [u8], numbers: &mut [usize]) -> Answer
     ensures { λ r. ⌜

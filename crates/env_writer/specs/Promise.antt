@@ -14,12 +14,12 @@ use Rattle.octets.specs.Choice.{if_then_else_}
 use Rattle.octets.specs.Lent.{Outcome, outcome}
 
 -- a payload, written where nothing is held against it
-unfoldable pub put : Objection → List ℕ → List ℕ → Outcome Written
+unfoldable pub put : Objection → (payload out : List ℕ) → Outcome Written
 put (against n) payload out = outcome (Refused n) out
 put none payload out = writtenInto payload out
 
 -- a first byte and the variables that records have over a buffer, written
-unfoldable pub writeInto : ℕ → List ℕ → List ℕ → List ℕ → Outcome Written
+unfoldable pub writeInto : ℕ → (bytes numbers out : List ℕ) → Outcome Written
 writeInto first bytes numbers out =
     if not (isFirst first) then outcome (Refused notIsOrInfo) out else
     if not (placed bytes numbers) then outcome (Refused badVariableRecord) out else

@@ -21,7 +21,7 @@ use env::VARIABLE_LIMIT;
 use env::VariableRecord;
 use refusal::Written;
 
-// What stands for every length that is past the limit.
+// The length that says: past the limit.
 const TOO_LONG: usize = PAYLOAD_LIMIT + 1;
 
 // Whether a record is a VAR or a USERVAR, with its name and its value in the buffer.

@@ -40,7 +40,7 @@ abbrev pub writtenNumbers : Written → TvWritten
 writtenNumbers (Wrote n) = wrote n
 writtenNumbers (Refused r) = notWritten r
 
-abbrev pub three : ℕ → ℕ → ℕ → KindNumbers
+abbrev pub three : (w c o : ℕ) → KindNumbers
 three w c o = record { what = w; code = c; option = o }
 
 -- the numbers of a kind
@@ -64,7 +64,7 @@ negotiationNamed NoVerb o = NoKind
 negotiationNamed (IsVerb v) o = IsKind (Negotiation v o)
 
 -- the kind that three numbers name
-unfoldable pub kindNamed : ℕ → ℕ → ℕ → NamedKind
+unfoldable pub kindNamed : (w c o : ℕ) → NamedKind
 kindNamed w c o =
     if eqb w 1 then IsKind Data else
     if eqb w 2 then IsKind (Command c) else

@@ -19,7 +19,7 @@ pub record ReadOut : Type 0 where
   pub bytes : List ℕ
   pub numbers : List ℕ
 
-abbrev pub readOut : TvPayload → List ℕ → List ℕ → ReadOut
+abbrev pub readOut : TvPayload → (b n : List ℕ) → ReadOut
 readOut a b n = record { answer = a; bytes = b; numbers = n }
 
 abbrev pub readNumbers : Delivery → ReadOut

@@ -24,7 +24,7 @@ pub struct TvPayload {
     pub bytes: usize,
 }
 
-// Where a value stands in a buffer. `present` is 1, or 0 with the others 0.
+// The place of a value in a buffer. `present` is 1, or 0 with the others 0.
 #[repr(C)]
 pub struct TvValue {
     pub present: u8,
@@ -97,7 +97,7 @@ pub extern "C" fn tv_env_write(
     export::written_numbers(env_writer::write(first, bytes, numbers, out))
 }
 
-// Where the value stands of the first variable of a kind and name. The place is the record's own: records that
+// The place of the value of the first variable of a kind and name. The place is the record's own: records that
 // `tv_env_read` set keep within `bytes`, others may not.
 #[no_mangle]
 pub extern "C" fn tv_env_value(bytes: &[u8], numbers: &[usize], kind: usize, name: &[u8]) -> TvValue

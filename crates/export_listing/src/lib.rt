@@ -9,7 +9,7 @@ ghost use Rattle.refusal.specs.Written.{writtenInto};
 ghost use Rattle.octets.specs.Lent.{outcome};
 use export::TvWritten;
 
-// The line of what stands at a place, at the front of `out`: 67 bytes are always enough. Refused by 4.
+// The line of what is at a place, at the front of `out`: 67 bytes are always enough. Refused by 4.
 #[no_mangle]
 pub extern "C" fn tv_line(s: &[u8], at: usize, out: &mut [u8]) -> TvWritten
     ensures { λ r. ⌜

@@ -299,7 +299,7 @@ pub extern "C" fn tv_option_request(
     )
 }
 
-// This end hears what stands at a place of the other's line, and answers on its own line at a place if that is an
+// This end hears what is at a place of the other's line, and answers on its own line at a place if that is an
 // option command. Refused by 5 for either place; by 1, 2, 3 or 6 where it cannot be read; by 4.
 #[no_mangle]
 pub extern "C" fn tv_option_hear(

@@ -31,7 +31,7 @@ hashInto h out =
     writeFront wrote (notWritten noRoom) (h .bytes) out
 
 -- the substitute for a token, written likewise; a token of another length is of no record
-unfoldable pub substituteInto : List ℕ → List ℕ → ℕ → ℕ → List ℕ → Outcome TvWritten
+unfoldable pub substituteInto : (token name : List ℕ) (serverSeed clientSeed : ℕ) (out : List ℕ) → Outcome TvWritten
 substituteInto token name serverSeed clientSeed out =
     if not (eqb (length token) shaLength) then outcome (notWritten badProfile) out else
     hashInto (shaSubstitute token name serverSeed clientSeed) out

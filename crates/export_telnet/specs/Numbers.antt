@@ -18,7 +18,7 @@ use Rattle.export_telnet.specs.declared.TvRecord.{TvRecord}
 use Rattle.refusal.specs.Refusal.{notWritable}
 use Rattle.octets.specs.Lent.{Outcome, outcome}
 
-abbrev pub foundEvent : KindNumbers → ℕ → ℕ → TvEvent
+abbrev pub foundEvent : KindNumbers → (n x : ℕ) → TvEvent
 foundEvent k n x = record { what = k .what; refusal = 0; code = k .code; option = k .option; length = n; next = x }
 
 -- no event: the input ended, where the refusal is 0
@@ -36,6 +36,6 @@ recordNumbers Unfinished = record { complete = 0; refusal = 0; length = 0; next 
 recordNumbers (NoRecord r) = record { complete = 0; refusal = r; length = 0; next = 0 }
 
 -- the event that numbers name, written; where they name none it is not writable
-abbrev pub writeNamed : NamedKind → List ℕ → List ℕ → Outcome Written
+abbrev pub writeNamed : NamedKind → (payload out : List ℕ) → Outcome Written
 writeNamed NoKind payload out = outcome (NotWritten notWritable) out
 writeNamed (IsKind k) payload out = writeOf (event k payload) out

@@ -14,7 +14,7 @@ use refusal::Written;
 use telnet_reader::Answer;
 use telnet_records::Record;
 
-// What stands at a place. `what` is 0 where the input ended, 1 for data, 2 for a command, 3 for a negotiation, 4 for a
+// What is at a place. `what` is 0 where the input ended, 1 for data, 2 for a command, 3 for a negotiation, 4 for a
 // subnegotiation. `code` is the command, or 251 to 254 for WILL, WONT, DO and DONT. `option` is the option byte.
 // `length` is how many bytes the event carries, `next` the place after it. What an event does not have is 0, and all is
 // 0 where the input ended.
@@ -123,7 +123,7 @@ pub extern "C" fn tv_read_record(s: &[u8], at: usize, out: &mut [u8]) -> TvRecor
 }
 
 // Writes the event that `what`, `code` and `option` name, with the numbers of `TvEvent`, to the front of the buffer;
-// the bytes that it carries stand in `payload`. What the named event does not have is not looked at. Refused by 7, also
+// the bytes that it carries are in `payload`. What the named event does not have is not looked at. Refused by 7, also
 // where the numbers name no event, and by 3 and 4.
 #[no_mangle]
 pub extern "C" fn tv_write(

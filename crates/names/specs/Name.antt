@@ -26,7 +26,7 @@ isNameByte b = inRange 0x41 0x5A b || inRange 0x30 0x39 b || eqb b 0x24 || eqb b
 unfoldable pub isName : ℕ → List ℕ → Bool
 isName limit text = leb 1 (length text) && leb (length text) limit && every isNameByte (raised text)
 
--- whether a text is such a name as it stands, with no lower case
+-- whether a text is such a name as it is, with no lower case
 unfoldable pub isRaisedName : ℕ → List ℕ → Bool
 isRaisedName limit text = leb 1 (length text) && leb (length text) limit && every isNameByte text
 

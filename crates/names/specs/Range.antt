@@ -5,7 +5,7 @@ use Prim.Native.Nat.{ℕ}
 use lib.Dec.{leb}
 
 -- whether a byte lies in a range, its two ends included
-abbrev pub inRange : ℕ → ℕ → ℕ → Bool
+abbrev pub inRange : (low high b : ℕ) → Bool
 inRange low high b = leb low b && leb b high
 
 -- whether each byte of a text passes a test

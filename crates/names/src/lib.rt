@@ -52,14 +52,14 @@ pub fn ebcdic(b: u8) -> u8
     }
 }
 
-// Whether a byte, raised already, may stand in a name: those bytes have an EBCDIC of their own.
+// Whether a byte, raised already, may be in a name: those bytes have an EBCDIC of their own.
 fn is_name_byte(b: u8) -> bool
     ensures { λ r. ⌜ r ≡ isNameByte b ⌝ }
 {
     ebcdic(b) != SUBSTITUTE
 }
 
-// Whether each byte of a text, raised, may stand in a name.
+// Whether each byte of a text, raised, may be in a name.
 fn are_name_bytes(text: &[u8]) -> bool
     ensures { λ r. ⌜ r ≡ every isNameByte (raised (now (text .entry))) ⌝ }
 {

@@ -1,4 +1,4 @@
-// The order of names, and names as they stand in a profile table: raised already. What is right is said in the crate
+// The order of names, and names as they are in a profile table: raised already. What is right is said in the crate
 // `names`, in `specs/Order.antt` and `specs/Name.antt`.
 ghost use mathlib.Core.Path.{_≡_};
 ghost use Rattle.names.specs.Range.{every};
@@ -22,7 +22,7 @@ pub fn precedes(one: &[u8], other: &[u8]) -> bool
     i < other.len()
 }
 
-// Whether a byte may stand in a name that is raised: those bytes have an EBCDIC of their own, and no other has.
+// Whether a byte may be in a name that is raised: those bytes have an EBCDIC of their own, and no other has.
 fn is_name_byte(b: u8) -> bool
     ensures { λ r. ⌜ r ≡ isNameByte b ⌝ }
 {
@@ -42,7 +42,7 @@ fn are_name_bytes(text: &[u8]) -> bool
     true
 }
 
-// Whether a text is a name of at most `limit` bytes as it stands, with no lower case.
+// Whether a text is a name of at most `limit` bytes as it is, with no lower case.
 pub fn is_raised_name(text: &[u8], limit: usize) -> bool
     ensures { λ r. ⌜ r ≡ isRaisedName limit (now (text .entry)) ⌝ }
 {

@@ -1,4 +1,4 @@
--- Lists from a place on: the bytes that stand there, and the part that goes to the end. Assumes nothing.
+-- Lists from a place on: the bytes that are there, and the part that goes to the end. Assumes nothing.
 use mathlib.Core.Path.{_≡_, refl, ap, _∙_}
 use mathlib.Core.List.{List, [], _∷_}
 use Prim.Native.Nat.{ℕ, _+_, _-_, _<_}

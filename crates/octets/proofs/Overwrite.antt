@@ -1,4 +1,4 @@
--- The laws of `overwrite`: a write of nothing and of one byte, two writes one after the other, and what stands there
+-- The laws of `overwrite`: a write of nothing and of one byte, two writes one after the other, and what is there
 -- after it. Assumes nothing.
 use mathlib.Core.Path.{_≡_, refl, sym, ap, _∙_}
 use mathlib.Core.List.{List, [], _∷_, _++_, append-assoc, append-nil}
@@ -31,7 +31,7 @@ overwrite-one l at b h = rw (add-one, set-split l at b h)
 head-length : (l : List ℕ) (at : ℕ) (x : List ℕ) → at ≤ length l → length (take at l ++ x) ≡ at + length x
 head-length l at x h = rw (length-append, length-take-le at l h)
 
--- what stands up to the end of a write, and after it
+-- what is up to the end of a write, and after it
 pub take-written : (l : List ℕ) (at : ℕ) (x : List ℕ) → at ≤ length l → take (at + length x) (overwrite l at x) ≡ take at l ++ x
 take-written l at x h = rw (written, ← append-assoc) (take-at (take at l ++ x) (drop (at + length x) l) (at + length x) (head-length l at x h))
 

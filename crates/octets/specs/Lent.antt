@@ -13,7 +13,7 @@ abbrev pub outcome : {A : Type 0} → A → List ℕ → Outcome A
 outcome a l = record { answer = a; lent = l }
 
 -- a buffer with bytes put at a place: everything before and after them is as it was
-unfoldable pub overwrite : List ℕ → ℕ → List ℕ → List ℕ
+unfoldable pub overwrite : (buffer : List ℕ) → ℕ → (bytes : List ℕ) → List ℕ
 overwrite buffer at bytes = take at buffer ++ (bytes ++ drop (at + length bytes) buffer)
 
 -- bytes put at a place, told by the place after them and by the buffer as it is left

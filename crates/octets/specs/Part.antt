@@ -4,5 +4,5 @@ use mathlib.Core.List.{List}
 use lib.ListN.{take, drop}
 
 -- the n bytes from a place on, or as many as there are
-unfoldable pub part : List ℕ → ℕ → ℕ → List ℕ
+unfoldable pub part : List ℕ → (at n : ℕ) → List ℕ
 part bytes at n = take n (drop at bytes)

@@ -8,7 +8,7 @@ use Rattle.octets.specs.Choice.{if_then_else_}
 use Rattle.octets.specs.Lent.{Outcome, outcome, overwrite}
 
 -- bytes put at a place of a buffer; where they do not fit, a refusal, and the buffer is as it was
-unfoldable pub putAt : List ℕ → List ℕ → ℕ → Outcome Bool
+unfoldable pub putAt : (bytes buffer : List ℕ) → ℕ → Outcome Bool
 putAt bytes buffer at = if leb (at + length bytes) (length buffer) then outcome true (overwrite buffer at bytes) else outcome false buffer
 
 -- bytes written to the front of a buffer, told by how many they are; where they do not fit, another answer, and the

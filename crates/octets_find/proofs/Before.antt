@@ -1,5 +1,5 @@
--- What stands before a byte, from a place of a text on: it ends where the byte stands, at the first such place, and
--- without its first bytes it is what stands before the byte from further on. Assumes nothing.
+-- What comes before a byte, from a place of a text on: it ends where the byte is, at the first such place, and
+-- without its first bytes it is what comes before the byte from further on. Assumes nothing.
 use mathlib.Core.Path.{_≡_, sym, _∙_}
 use mathlib.Core.List.{List, [], _∷_}
 use Prim.Native.Nat.{ℕ, zero, suc, _+_, _-_, _≤_, _<_, zero-le, suc-le-suc}

@@ -154,7 +154,7 @@ fn next(option: u8, past: Replayed, byte: u8) -> Replayed
     past
 }
 
-// Replays a list of calls, one byte a call, over two fresh ends of one side of an option: where they stand after it,
+// Replays a list of calls, one byte a call, over two fresh ends of one side of an option: where they are after it,
 // and the totals over all of it, which fit because each call sends at most one command.
 pub fn replay(option: u8, calls: &[u8]) -> Replayed
     ensures { λ r. ⌜ seen r ≡ replayed (rulesOf option) (callsOf (now (calls .entry))) ⌝ }

@@ -1,4 +1,4 @@
--- What is told of what stands at a place of the other end's line (`Theorems.HearTells`), and that a command which was
+-- What is told of what is at a place of the other end's line (`Theorems.HearTells`), and that a command which was
 -- put on a line is heard there (`Theorems.RequestIsHeard`). Assumes nothing.
 use mathlib.Core.Path.{_≡_, refl, sym, ap, _∙_, subst, subst⁻¹}
 use mathlib.Core.Bool.{Bool}
@@ -36,7 +36,7 @@ module _ (s : Sides) (heard : List ℕ) (from : ℕ) (accept : Bool) (line : Lis
   abbrev r : Outcome Sent
   r = heardOn s heard from accept line at
 
-  -- what stands at the place, heard
+  -- what is at the place, heard
   abbrev hearing : Front → Outcome Sent
   hearing f = heardAs s (answered from f) accept line at
 
@@ -147,7 +147,7 @@ command-front Wont o rest = refl
 command-front Do o rest = refl
 command-front Dont o rest = refl
 
--- what was put stands at its place
+-- what was put is at its place
 put-stands : (l : List ℕ) (at : ℕ) (x : List ℕ) → at ≤ length l → drop at (overwrite l at x) ≡ x ++ drop (at + length x) l
 unfolding overwrite
 put-stands l at x h = drop-at (take at l) (x ++ drop (at + length x) l) at (length-take-le at l h)

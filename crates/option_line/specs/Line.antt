@@ -68,7 +68,7 @@ heardAs s End accept line at = outcome (sent s 0 at) line
 heardAs s (Found k l next) accept line at = heardEvent s k accept line at
 heardAs s (Refused n) accept line at = outcome (sent s n at) line
 
--- what stands at a place of the other end's line, heard: the reader's refusals are this one's, after 5 for the place of
+-- what is at a place of the other end's line, heard: the reader's refusals are this one's, after 5 for the place of
 -- this end's line
 unfoldable pub heardOn : Sides → (heard : List ℕ) (from : ℕ) (accept : Bool) (line : List ℕ) (at : ℕ) → Outcome Sent
 heardOn s heard from accept line at = unlessPast s line at (heardAs s (lookAt heard from) accept line at)

@@ -90,7 +90,7 @@ ConcernsNoOption (found (negotiation v o)) = ⊥
 ConcernsNoOption (found (subnegotiation o p)) = Unit {0}
 ConcernsNoOption (refused n) = ⊥
 
--- what is told of what stands at a place of the other end's line
+-- what is told of what is at a place of the other end's line
 pub record TellsHeard (s : Sides) (heard : List ℕ) (from : ℕ) (accept : Bool) (line : List ℕ) (at : ℕ) (r : Outcome Sent) : Type 0 where
   -- 5 exactly where one of the two places is past its end
   pub five : (r .answer .number ≡ 5) ↔ ((length line < at) ⊎ (length heard < from))

@@ -130,7 +130,7 @@ fn hear_event(sides: Sides, kind: Kind, accept: bool, line: &mut [u8], at: usize
     }
 }
 
-// This end hears what stands at a place of the other's line, and answers it on its own line if it is an option command.
+// This end hears what is at a place of the other's line, and answers it on its own line if it is an option command.
 // A place past the end of either line is 5; what cannot be read is refused by the reader's number.
 pub fn hear(
     sides: Sides,

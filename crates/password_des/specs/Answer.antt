@@ -16,13 +16,13 @@ use Rattle.password_des.specs.Des as Des
 abbrev pub desPasswordLimit : ℕ
 desPasswordLimit = 10
 
-unfoldable pub desToken : List ℕ → List ℕ → Block
+unfoldable pub desToken : (name password : List ℕ) → Block
 desToken name password =
     if not (isName profileLimit name) then Refused badProfileName else
     if not (isName desPasswordLimit password) then Refused badPassword else
     Value (Des.PW-TOKEN (ebcdicOf password) (ebcdicOf name))
 
-unfoldable pub desSubstitute : ℕ → List ℕ → ℕ → ℕ → Block
+unfoldable pub desSubstitute : (token : ℕ) → List ℕ → (serverSeed clientSeed : ℕ) → Block
 desSubstitute token name serverSeed clientSeed =
     if not (isName profileLimit name) then Refused badProfileName else
     Value (Des.PW-SUB token serverSeed clientSeed (ebcdicOf name))

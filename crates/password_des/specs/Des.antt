@@ -29,7 +29,7 @@ abbrev pub byte : List ℕ → ℕ → ℕ
 byte ID i = getD ID (i - 1) 0
 
 -- the j-th pair of bits of a byte, from 0 on: bits 2j and 2j + 1, where bit 0 is the high-order bit
-abbrev pub pair : ℕ → ℕ → ℕ
+abbrev pub pair : (b j : ℕ) → ℕ
 pair b j = b / 2 ^ (6 - 2 * j) % 4
 
 -- 4) byte i of a folded identifier of ten bytes: its bits 0 and 1 are XORed with a pair of byte 9 (bytes 1 to 4) or
@@ -46,11 +46,11 @@ unfoldable pub userID : List ℕ → ℕ
 userID ID = number (if ltb 8 (length ID) then folded (filled blank 10 ID) else filled blank 8 ID)
 
 -- the token of a password of at most eight bytes
-abbrev pub tokenOf : List ℕ → List ℕ → ℕ
+abbrev pub tokenOf : (PW ID : List ℕ) → ℕ
 tokenOf PW ID = enciphered (SHIFT-RESULT PW) (userID ID)
 
 -- 4), 8) PW-TOKEN, for lengths 9 and 10 PW-TOKENa xor PW-TOKENb: of characters 1 to 8, and of those after them
-unfoldable pub PW-TOKEN : List ℕ → List ℕ → ℕ
+unfoldable pub PW-TOKEN : (PW ID : List ℕ) → ℕ
 PW-TOKEN PW ID = if ltb 8 (length PW) then bitXor (tokenOf (take 8 PW) ID) (tokenOf (drop 8 PW) ID) else tokenOf PW ID
 
 -- 5) "it is always one"
@@ -66,7 +66,7 @@ abbrev pub paddedID : List ℕ → List ℕ
 paddedID ID = filled blank 16 ID
 
 -- 7) the blocks of data, where RDs is the client seed
-abbrev pub dataBlocks : ℕ → ℕ → List ℕ → List ℕ
+abbrev pub dataBlocks : (RDr RDs : ℕ) → List ℕ → List ℕ
 dataBlocks RDr RDs ID =
     RDrSEQ RDr
     ∷ RDs
@@ -76,5 +76,5 @@ dataBlocks RDr RDs ID =
     ∷ []
 
 -- the last block of their chain, from eight bytes of zeros
-unfoldable pub PW-SUB : ℕ → ℕ → ℕ → List ℕ → ℕ
+unfoldable pub PW-SUB : (token RDr RDs : ℕ) → List ℕ → ℕ
 PW-SUB token RDr RDs ID = chained (roundKeys token) 0 (dataBlocks RDr RDs ID)

@@ -18,13 +18,13 @@ hash digest = record { refusal = 0; bytes = digest }
 abbrev pub noHash : ℕ → Hash
 noHash number = record { refusal = number; bytes = replicate 20 0 }
 
-unfoldable pub shaToken : List ℕ → List ℕ → Hash
+unfoldable pub shaToken : (name password : List ℕ) → Hash
 shaToken name password =
     if not (isName profileLimit name) then noHash badProfileName else
     if not (isPassword password) then noHash badPassword else
     hash (PW-token name password)
 
-unfoldable pub shaSubstitute : List ℕ → List ℕ → ℕ → ℕ → Hash
+unfoldable pub shaSubstitute : (token name : List ℕ) (serverSeed clientSeed : ℕ) → Hash
 shaSubstitute token name serverSeed clientSeed =
     if not (isName profileLimit name) then noHash badProfileName else
     hash (PW-SUB token (bytes 8 serverSeed) (bytes 8 clientSeed) name)

@@ -30,7 +30,7 @@ unfoldable pub isPassword : List ℕ → Bool
 isPassword text = leb 1 (length text) && leb (length text) 128 && every isPrintable text
 
 -- 3) the password token
-unfoldable pub PW-token : List ℕ → List ℕ → List ℕ
+unfoldable pub PW-token : (ID password : List ℕ) → List ℕ
 PW-token ID password = sha1 (uppercase-unicode-userid ID ++ unicode password)
 
 -- the sequence number in eight bytes
@@ -38,9 +38,9 @@ abbrev pub PWSEQ : List ℕ
 PWSEQ = bytes 8 PWSEQs
 
 -- what the substitute is the hash of
-abbrev pub substituteText : List ℕ → List ℕ → List ℕ → List ℕ → List ℕ
+abbrev pub substituteText : (token serverseed clientseed ID : List ℕ) → List ℕ
 substituteText token serverseed clientseed ID = token ++ serverseed ++ clientseed ++ uppercase-unicode-userid ID ++ PWSEQ
 
 -- 5) the substitute password
-unfoldable pub PW-SUB : List ℕ → List ℕ → List ℕ → List ℕ → List ℕ
+unfoldable pub PW-SUB : (token serverseed clientseed ID : List ℕ) → List ℕ
 PW-SUB token serverseed clientseed ID = sha1 (substituteText token serverseed clientseed ID)

@@ -13,7 +13,7 @@ abbrev pub SEND : ℕ
 SEND = 1
 
 -- "IAC SB NEW-ENVIRON SEND USERVAR IBMRSEED xxxxxxxx VAR USERVAR IAC SE" (RFC 4777, section 12): the server's seed, and
--- a request for all variables of both kinds. The seed is part of the name, so an ESC stands before each of its bytes
+-- a request for all variables of both kinds. The seed is part of the name, so an ESC goes before each of its bytes
 -- that is a code (RFC 1572, section 2).
 abbrev pub request : List ℕ
 request = SEND ∷ USERVAR ∷ (ascii "IBMRSEED" ++ escaped serverSeed ++ VAR ∷ USERVAR ∷ [])

@@ -28,8 +28,8 @@ answers =
 abbrev pub exchanged : Commands
 exchanged = record { down = writtenAll requests; up = writtenAll answers; rests = true }
 
--- six commands of three bytes each stand at the front of both lines, where both have room for them
-abbrev pub fit : List ℕ → List ℕ → Bool
+-- six commands of three bytes each are at the front of both lines, where both have room for them
+abbrev pub fit : (down up : List ℕ) → Bool
 fit down up = leb 18 (length down) && leb 18 (length up)
 
 pub record Negotiated (down up : List ℕ) (rests : Bool) (down′ up′ : List ℕ) : Type 0 where

@@ -57,8 +57,8 @@ ledgerBy down at = takeFrame fresh (bytesRead (recordAt down at (replicate 512 0
 abbrev pub placed : Outcome Sent → Outcome ℕ
 placed o = outcome (o .answer .place) (o .lent)
 
--- the answer to what stands at a place
-unfoldable pub replied : List ℕ → ℕ → List ℕ → ℕ → Outcome ℕ
+-- the answer to what is at a place
+unfoldable pub replied : (down : List ℕ) (from : ℕ) (up : List ℕ) (at : ℕ) → Outcome ℕ
 replied down from up at = placed (heardOn allOff down from true up at)
 
 -- events after what was sent

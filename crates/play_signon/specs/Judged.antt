@@ -1,4 +1,4 @@
--- The verdict on what stands at a place of a line.
+-- The verdict on what is at a place of a line.
 use Prim.Native.Nat.{ℕ}
 use mathlib.Core.List.{List}
 use lib.ListN.{replicate}
@@ -30,5 +30,5 @@ abbrev pub bytesRead : Outcome Read → List ℕ
 bytesRead o = part (o .lent) 0 (lengthOf (o .answer))
 
 -- under a table and the server's seed, the verdict on the payload at a place
-unfoldable pub judged : List ℕ → List ℕ → ℕ → Verdict
+unfoldable pub judged : (table up : List ℕ) → ℕ → Verdict
 judged table up at = verdictBy (answerOf serverSeed table (bytesRead (readAt up at (replicate payloadLimit 0))))

@@ -27,7 +27,7 @@ abbrev pub numberAt : List ℕ → ℕ → ℕ
 numberAt f k = byte f k * 256 + byte f (k + 1)
 
 -- whether bit k of a byte is set
-abbrev pub isSet : ℕ → ℕ → Bool
+abbrev pub isSet : (k b : ℕ) → Bool
 isSet k b = eqb (b / 2 ^ (7 - k) % 2) 1
 
 -- BYTES 0-1: length of structure including this field (LLLL)
@@ -81,7 +81,7 @@ flagsOf b = record {
 }
 
 -- BYTES 7-8: reserved are bits 5 to 7 of the first and all of the second
-unfoldable pub isReserved : ℕ → ℕ → Bool
+unfoldable pub isReserved : (b c : ℕ) → Bool
 isReserved b c = isSet 5 b || isSet 6 b || isSet 7 b || not (eqb c 0)
 
 -- BYTE 9: printer operation code, '01'X "Print/Print complete", '02'X "Clear Print Buffers"

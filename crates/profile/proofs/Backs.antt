@@ -48,7 +48,7 @@ pair-bytes a b g h zero = g
 pair-bytes a b g h (suc zero) = h
 pair-bytes a b g h (suc (suc i)) = omega arith
 
--- a record at the front: the profile that it says is well-formed, and its record is what stands there
+-- a record at the front: the profile that it says is well-formed, and its record is what is there
 pub record Backs (s : Shape) (bs : List ℕ) : Type 0 where
   pub good : WellFormed s (profileAt s bs)
   pub whole : recordBytes (profileAt s bs) ++ drop (recordLength s (nameLengthAt bs)) bs ≡ bs
@@ -89,7 +89,7 @@ backs s (a ∷ b ∷ f ∷ n ∷ r) g t =
       whole = rw (says, two, flags, name, four-on n, two-and-two (n + sumOf ts)) (ap (λ l. a ∷ b ∷ f ∷ n ∷ l) all);
     }
 
--- a reading of bytes that means what stands there
+-- a reading of bytes that means what is there
 abbrev Means : Shape → ℕ → List ℕ → List ℕ → TableReading → Type 0
 Means s room before bs (profiles ps) = (recordsBytes ps ≡ bs) × (Ascending s before ps × (length ps ≤ room))
 Means s room before bs (tableRefused n) = Unit {0}
@@ -124,7 +124,7 @@ records-mean s (suc room) before (b ∷ bs) g =
     add-means s room before l (profilesFrom s room (nameAt l) rest) g
     (passes (isRecord s l) (not-false _ t)) (passes (precedes before (nameAt l)) (not-false _ o)) more))
 
--- a reading of a table that means what stands there
+-- a reading of a table that means what is there
 abbrev pub TableMeans : List ℕ → TableReading → Type 0
 TableMeans bs (profiles ps) = IsTable bs ps
 TableMeans bs (tableRefused n) = Unit {0}

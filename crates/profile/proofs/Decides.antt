@@ -56,7 +56,7 @@ module _ (s : Shape) (short : bodyLength s profileLimit < 2 ^ 16) where
       rw append-assoc (next-record s short room before p (recordsBytes ps ++ rest) w b
       ∙ ap (addProfile p) (passed room left (p .name) ps rest n asc (omega arith) e))
 
-  -- bytes at whose front no record of a well-formed profile stands are not a record
+  -- bytes at whose front there is no record of a well-formed profile are not a record
   no-record : (bs : List ℕ) → Bytes bs → Malformed s bs → isRecord s bs ≡ false
   no-record bs g bad =
       is-false (isRecord s bs) (λ t. let b = backs s bs g t in bad _ _ (b .good) (sym (b .whole)))

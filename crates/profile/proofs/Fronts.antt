@@ -84,7 +84,7 @@ pub length-body : (s : Shape) (p : Profile) → WellFormed s p → length (bodyO
 length-body s p w = omega (arith, length-append (p .name) (tokenBytes (p .tokens)), length-joined (p .tokens), ap sumOf (w .tokens))
 
 module _ (s : Shape) (p : Profile) (rest : List ℕ) (w : WellFormed s p) (short : bodyLength s profileLimit < 2 ^ 16) where
-  -- what stands after the four bytes in front
+  -- what comes after the four bytes in front
   abbrev tail : List ℕ
   tail = (p .name ++ tokenBytes (p .tokens)) ++ rest
 

@@ -76,7 +76,7 @@ bodyLength s n = 2 + (n + sumOf (s .tokens))
 abbrev pub recordLength : Shape → ℕ → ℕ
 recordLength s n = 2 + bodyLength s n
 
--- what stands after the length: flags, n, name, tokens
+-- what comes after the length: flags, n, name, tokens
 abbrev pub bodyOf : Profile → List ℕ
 bodyOf p = flagsByte (p .marks) ∷ length (p .name) ∷ (p .name ++ tokenBytes (p .tokens))
 

@@ -41,7 +41,7 @@ profileAt s bs = record {
   tokens = tokensOf (s .tokens) (drop (4 + nameLengthAt bs) bs);
 }
 
--- a well-formed record stands at the front: it is not cut, its length is right for its name, no other flag is set, and
+-- a well-formed record is at the front: it is not cut, its length is right for its name, no other flag is set, and
 -- its name is a raised name
 unfoldable pub isRecord : Shape → List ℕ → Bool
 isRecord s bs =
@@ -54,7 +54,7 @@ pub data TableReading : Type 0 where
   profiles : List Profile → TableReading
   tableRefused : ℕ → TableReading
 
--- a profile with what stands after it
+-- a profile with what comes after it
 unfoldable pub addProfile : Profile → TableReading → TableReading
 addProfile p (profiles ps) = profiles (p ∷ ps)
 addProfile p (tableRefused n) = tableRefused n

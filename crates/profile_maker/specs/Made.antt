@@ -21,7 +21,7 @@ pub record Making : Type 0 where
   pub enabled : Bool
   pub desAllowed : Bool
 
-abbrev pub making : List ℕ → List ℕ → Bool → Bool → Making
+abbrev pub making : (n p : List ℕ) → Bool → Bool → Making
 making n p e d = record { name = n; password = p; enabled = e; desAllowed = d }
 
 -- whether a password has a DES token
@@ -29,7 +29,7 @@ abbrev pub hasDesToken : List ℕ → Bool
 hasDesToken password = isName desPasswordLimit password
 
 -- the eight bytes of the DES token (section 5.1); zeros, where the password has none
-unfoldable pub desTokenBytes : List ℕ → List ℕ → List ℕ
+unfoldable pub desTokenBytes : (name password : List ℕ) → List ℕ
 desTokenBytes name password = if hasDesToken password then bytes 8 (PW-TOKEN (ebcdicOf password) (ebcdicOf name)) else replicate 8 0
 
 -- the profile: the mark for DES only where the password has a token of it; the token also where the mark says no

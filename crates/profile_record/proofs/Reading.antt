@@ -20,7 +20,7 @@ use Rattle.profile_record.specs.Step.{stepOf}
 abbrev pub recordsAfter : Shape → (count : ℕ) (before bs : List ℕ) → TableReading
 recordsAfter s count before bs = profilesFrom s (profileCount - count) before bs
 
--- a record with a name of n bytes stands at the front, and others after it
+-- a record with a name of n bytes is at the front, and others after it
 pub record IsNext (s : Shape) (count : ℕ) (before bs : List ℕ) (n : ℕ) : Type 0 where
   pub few : count < profileCount
   pub is : isRecord s bs ≡ true

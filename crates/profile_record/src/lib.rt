@@ -34,7 +34,7 @@ fn pair(high: u8, low: u8) -> usize
     (high as usize) * 256 + (low as usize)
 }
 
-// Whether a well-formed record of a version stands at the front of bytes.
+// Whether a well-formed record of a version is at the front of bytes.
 pub fn is_record(version: u8, bytes: &[u8]) -> bool
     ensures { λ r. ⌜ r ≡ isRecord (shapeOf version) (now (bytes .entry)) ⌝ }
 {

@@ -1,4 +1,4 @@
--- What is found in a table is the profile that has the name and stands at the place: the theorem
+-- What is found in a table is the profile that has the name and is at the place: the theorem
 -- `Theorems.FoundIsNamed`. Assumes nothing.
 use mathlib.Core.Path.{_≡_, refl, sym, ap, _∙_}
 use mathlib.Core.List.{List, [], _∷_, _++_}
@@ -18,7 +18,7 @@ use Rattle.profile.proofs.Backs.{tables-written-back}
 use Rattle.profile_table.specs.Answer.{entry, foundFrom, foundIn}
 use Rattle.profile_table.specs.Theorems.{Tells, FoundIsNamed}
 
--- the records of profiles stand from a place on
+-- the records of profiles begin at a place
 tells-from : (table before : List ℕ) (at : ℕ) (ps : List Profile) → Ascending (shapeIn table) before ps → drop at table ≡ recordsBytes ps
     → (name : List ℕ) → Tells table (profileNamed name ps) (foundFrom at name ps)
 unfolding profileNamed foundFrom recordsBytes

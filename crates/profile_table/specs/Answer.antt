@@ -21,12 +21,12 @@ checked (tableRefused n) = NotRead n
 abbrev pub entry : ℕ → Profile → Entry
 entry at p = record { at = at; enabled = enabled p; «des_allowed» = desAllowed p }
 
--- the first profile of a name, where the records of profiles stand from a place on
+-- the first profile of a name, where the records of profiles begin at a place
 unfoldable pub foundFrom : ℕ → List ℕ → List Profile → Found
 foundFrom at name [] = Absent
 foundFrom at name (p ∷ ps) = if same name (p .name) then Present (entry at p) else foundFrom (at + length (recordBytes p)) name ps
 
--- the profile of a name in a table, or the table's refusal; the records stand after the version byte
+-- the profile of a name in a table, or the table's refusal; the records come after the version byte
 unfoldable pub foundIn : List ℕ → TableReading → Found
 foundIn name (profiles ps) = foundFrom 1 name ps
 foundIn name (tableRefused n) = Refused n

@@ -10,7 +10,7 @@ use Rattle.profile_table.specs.declared.Found.{Found}
 use Rattle.profile_table.specs.declared.Found.the-variants.{Present, Absent, Refused}
 use Rattle.profile_table.specs.Answer.{entry, foundIn}
 
--- what a look-up in the profiles of a table must be, by its answer: none, or the profile that stands at the answer's
+-- what a look-up in the profiles of a table must be, by its answer: none, or the profile that is at the answer's
 -- place, with its marks
 abbrev pub Tells : List ℕ → ProfileLookup → Found → Type 0
 Tells table l Absent = l ≡ noProfile

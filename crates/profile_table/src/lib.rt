@@ -1,6 +1,6 @@
 // The profile table: how many profiles it has, and the profile of a name. Both take one pass over the lent table and
 // look at each byte at most six times; nothing is copied but a name. What a table says is `profile`'s `tableOf`; what
-// is answered stands in `specs/Answer.antt`.
+// is answered is said in `specs/Answer.antt`.
 ghost use mathlib.Core.Path.{_≡_};
 ghost use Prim.Native.Nat.{_+_, _≤_, _<_};
 ghost use mathlib.Core.List.{[]};
@@ -136,7 +136,7 @@ pub fn check(table: &[u8]) -> TableCheck
     }
 }
 
-// The profile of a name, raised first, or that there is none; 30, 31 or 32, wherever the fault stands in the table. A
+// The profile of a name, raised first, or that there is none; 30, 31 or 32, wherever the fault is in the table. A
 // text that is no name is in no table.
 pub fn find(table: &[u8], name: &[u8]) -> Found
     ensures { λ r. ⌜ r ≡ foundIn (raised (now (name .entry))) (tableOf (now (table .entry))) ⌝ }

@@ -1,4 +1,4 @@
-// The tokens of a profile, lent out of the table where its record stands, and whether it allows DES.
+// The tokens of a profile, lent out of the table where its record is, and whether it allows DES.
 ghost use mathlib.Core.Path.{_≡_};
 ghost use Prim.Native.Nat.{_+_, _<_};
 ghost use lib.ListN.{take, drop};
@@ -22,8 +22,8 @@ fn token_part(table: &[u8], at: usize, from: usize, count: usize) -> &[u8]
     octets_part::part(record, 4 + n + from, count)
 }
 
-// The DES token of the profile whose record stands at a place that `profile_table::find` gave; at any other place, what
-// stands there as if it were one.
+// The DES token of the profile whose record is at a place that `profile_table::find` gave; at any other place, what
+// is there as if it were one.
 pub fn des_token(table: &[u8], at: usize) -> &[u8]
     ensures { λ r. ⌜ now r ≡ storedDes (profileIn (now (table .entry)) at) ⌝ }
 {

@@ -1,4 +1,4 @@
-// The refusal numbers of the specification, "Refusal numbers", each by name. The same names stand in
+// The refusal numbers of the specification, "Refusal numbers", each by name. The same names are in
 // `specs/Refusal.antt` for the definitions; `table` ties the two lists to each other.
 ghost use mathlib.Core.Path.{_≡_};
 ghost use Rattle.refusal.specs.Refusal.{numbers};

@@ -11,7 +11,7 @@
 //
 // `stdout` is from a model of the specification's table and of its "Two ends, for demand 3", written from the paper in
 // another language and not from this program. Note 14 has no case: no list leads to it (the model walked all 54 pairs
-// of ends that there are). The nearest is an on under way to WantOff, which stands after an off.
+// of ends that there are). The nearest is an on under way to WantOff, which comes after an off.
 ghost use mathlib.Core.Path.{_≡_};
 ghost use Prim.Native.Nat.{_%_};
 use option_ends::Line;
@@ -101,7 +101,7 @@ fn run_digits(digits: &[u8]) {
     }
 }
 
-// A line: the name stands up to the colon, and after a blank the bytes.
+// A line: the name goes up to the colon, and after a blank the bytes.
 fn run_line(line: &[u8]) {
     let n = line.len();
     let colon = octets_find::find_byte(line, 0, b':');

@@ -39,7 +39,7 @@ fn say_place(place: ValuePlace) {
     }
 }
 
-// Where the value stands, and the value.
+// The place of the value, and the value.
 fn find_in(kind: usize, name: &[u8], buffer: &[u8], numbers: &[usize]) {
     say_place(env_search::find(buffer, numbers, kind, name));
     say_bytes(env_search::value_of(buffer, numbers, kind, name));

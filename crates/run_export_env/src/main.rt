@@ -1,6 +1,6 @@
 // Runs the calls for C that read environment strings, on the cases of standard input, one a line: a title, a colon, and
 // in hexadecimal digits a byte that says which call, and its arguments; a number has two bytes, and FFFF stands for the
-// largest there is. A payload stands after the rooms lent for bytes and for numbers; the kind of a variable before a
+// largest there is. A payload comes after the rooms lent for bytes and for numbers; the kind of a variable before a
 // buffer and a name, each after its length, and the numbers of the records. A line of output has the title, the numbers
 // of the answer in the order of its struct, and all that was lent, to its end: bytes, which are EE before, and numbers,
 // which are 7777 before. `stdin` and `stdout` were made by a Python script from the constants of include/tongvelvet.h
@@ -34,7 +34,7 @@ fn find(kind: usize, bytes: &[u8], name: &[u8], numbers: &[usize]) {
     say_numbers(&[v.present as usize, v.at, v.length]);
 }
 
-// The name stands after the buffer, and the numbers after the name.
+// The name comes after the buffer, and the numbers after the name.
 fn find_in(kind: usize, bytes: &[u8], rest: &[u8]) {
     let mut numbers = [0usize; 32];
     let n = show_numbers::put_numbers(show_input::left_after(rest, 0), &mut numbers);

@@ -1,7 +1,7 @@
 // Runs the calls for C on the profile table and its records, on the cases of standard input, one a line: a title, a
 // colon, and in hexadecimal digits a byte that says which call, a byte for the marks (01 enabled, 02 DES allowed), how
 // long the lent buffer is, a name after its two-byte length, and a table or a password. A table is checked, and the
-// name looked up in it; after 01, what is given stands after the version byte and 500 good records, A100 to A599. After
+// name looked up in it; after 01, what is given comes after the version byte and 500 good records, A100 to A599. After
 // 02 a record is made. A line of output has the title, the numbers of each answer in the order of its struct, and the
 // buffer that was lent, to its end; it is 2E before. `stdin` and `stdout` were made by a Python script from the
 // constants of include/tongvelvet.h and the specification ("Tokens, substitutes, verdicts", "Refusal numbers"): every
@@ -49,7 +49,7 @@ fn put_records(table: &mut [u8], at: usize) -> usize {
     place
 }
 
-// The version byte stands there already.
+// The version byte is there already.
 fn run_long_table(name: &[u8], given: &[u8]) {
     let mut table = [1u8; 20000];
     let at = put_records(&mut table, 1);

@@ -113,7 +113,7 @@ fn run_calls(calls: &[u8], heard: &[u8]) {
     }
 }
 
-// The digits of the calls stand before a blank, those of the other end's line after it.
+// The digits of the calls come before a blank, those of the other end's line after it.
 fn run_digits(digits: &[u8]) {
     let mut calls = [0u8; 96];
     let mut heard = [0u8; 32];

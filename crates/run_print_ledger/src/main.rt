@@ -74,7 +74,7 @@ fn run_digits(ledger: Ledger, letter: u8, digits: &[u8]) -> Ledger {
     run_case(ledger, letter, &mut bytes[0..n])
 }
 
-// A line: the name stands from its third byte on up to the colon, and after a blank the bytes.
+// A line: the name goes from the third byte to the colon, and after a blank the bytes.
 fn run_line(ledger: Ledger, line: &[u8]) -> Ledger {
     let n = line.len();
     let colon = octets_find::find_byte(line, 2, b':');

@@ -1,6 +1,6 @@
 // Runs the check and the look-up of profile tables on the cases of standard input, one a line: what is written first, a
 // colon, and in hexadecimal digits 00 or 01, how many bytes the name to look up has, the name, and the table. After 01,
-// what is given stands after the version byte and 500 good records, whose names are A100 to A599 and whose tokens are
+// what is given comes after the version byte and 500 good records, whose names are A100 to A599 and whose tokens are
 // text.
 //
 // A line of output is how many profiles the table has, and then the place of the name's record, its two marks (01 where

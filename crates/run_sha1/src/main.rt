@@ -66,7 +66,7 @@ fn run_digits(letter: u8, digits: &[u8]) {
     }
 }
 
-// A line: after the name's colon stand a blank and the bytes.
+// A line: after the name's colon come a blank and the bytes.
 fn run_line(line: &[u8]) {
     let n = line.len();
     let colon = octets_find::find_byte(line, 0, b':');

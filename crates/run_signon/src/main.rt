@@ -35,7 +35,7 @@ fn say_answer(answer: Answer) {
     }
 }
 
-// A sign-on whose parts stand one after the other from the fourth byte on.
+// A sign-on whose parts come one after the other from the fourth byte on.
 fn sign_on(seed_length: u8, table_high: u8, table_low: u8, case: &[u8]) {
     let table = 3 + seed_length as usize;
     let payload = table + 256 * table_high as usize + table_low as usize;

@@ -1,4 +1,4 @@
--- The rounds by twenties: what holds in each, and what stands between two rounds. Assumes nothing.
+-- The rounds by twenties: what holds in each, and what is between two rounds. Assumes nothing.
 use mathlib.Core.Path.{_≡_, refl, sym, ap, _∙_}
 use mathlib.Core.List.{List, [], _∷_, _++_, append-nil}
 use Prim.Native.Nat.{ℕ, zero, suc, _+_, _*_, _≤_, _<_}

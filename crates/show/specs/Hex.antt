@@ -10,7 +10,7 @@ unfoldable pub digitValue : ℕ → ℕ
 digitValue c = (c % 16 + (if ltb c 58 then 0 else 9)) % 16
 
 -- the byte that two digits say
-abbrev pub byteOf : ℕ → ℕ → ℕ
+abbrev pub byteOf : (high low : ℕ) → ℕ
 byteOf high low = 16 * digitValue high + digitValue low
 
 -- the bytes that pairs of digits say; a digit that is left over says none

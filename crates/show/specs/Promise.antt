@@ -9,10 +9,10 @@ use Rattle.octets.specs.Promise.{writeFront}
 use Rattle.show.specs.Hex.{hexBytes}
 
 -- the bytes of a text of hexadecimal digits at the front of a buffer, and how many; none where they do not fit
-abbrev pub hexInto : List ℕ → List ℕ → Outcome ℕ
+abbrev pub hexInto : (text out : List ℕ) → Outcome ℕ
 hexInto text out = writeFront (λ n. n) 0 (hexBytes text) out
 
 -- words at a place of a buffer, and the place after them; the buffer and the place as they were where the words do not
 -- fit
-unfoldable pub placed : List ℕ → List ℕ → ℕ → Outcome ℕ
+unfoldable pub placed : (words out : List ℕ) → ℕ → Outcome ℕ
 placed words out at = if leb (at + length words) (length out) then outcome (at + length words) (overwrite out at words) else outcome at out

@@ -1,4 +1,4 @@
--- Parts of a text as the code lends them: what stands before a byte, and what stands from a place on. Assumes nothing.
+-- Parts of a text as the code lends them: what comes before a byte, and what is there from a place on. Assumes nothing.
 use mathlib.Core.Path.{_≡_, refl, ap}
 use mathlib.Core.List.{List, [], _∷_}
 use Prim.Native.Nat.{ℕ}

@@ -6,7 +6,7 @@ use lib.ListN.{length, drop}
 use Rattle.octets.specs.Choice.{if_then_else_}
 use Rattle.octets.specs.Find.{upTo}
 
--- what stands from a place on before the next end of a line, LF; all that is left where there is none
+-- what is there from a place on before the next end of a line, LF; all that is left where there is none
 unfoldable pub lineAt : List ℕ → ℕ → List ℕ
 lineAt text at = upTo 10 (drop at text)
 
@@ -14,6 +14,6 @@ lineAt text at = upTo 10 (drop at text)
 unfoldable pub afterLine : List ℕ → ℕ → ℕ
 afterLine text at = if ltb (at + length (lineAt text at)) (length text) then at + length (lineAt text at) + 1 else at + length (lineAt text at)
 
--- what stands after the first colon of a line; nothing where there is none
+-- what comes after the first colon of a line; nothing where there is none
 unfoldable pub digitsIn : List ℕ → List ℕ
 digitsIn line = drop 1 (drop (length (upTo 58 line)) line)

@@ -33,14 +33,14 @@ fn say(words: &[u8]) {
     io::write_all(1, words);
 }
 
-// What stands before the colon, and it.
+// What comes before the colon, and it.
 fn say_title(line: &[u8]) {
     let colon = octets_find::find_byte(line, 0, b':');
     say(octets_part::part(line, 0, colon));
     say(b":");
 }
 
-// What stands after the colon.
+// What comes after the colon.
 fn digits(line: &[u8]) -> &[u8]
     ensures { λ r. ⌜ now r ≡ digitsIn (now (line .entry)) ⌝ }
 {

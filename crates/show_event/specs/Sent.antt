@@ -12,7 +12,7 @@ use Rattle.telnet_reader.specs.declared.Answer.{Answer}
 use Rattle.telnet_reader.specs.declared.Answer.the-variants.{End, Found, Refused as NotRead}
 use Rattle.telnet_writer.specs.Promise.{writeOf}
 
--- the place after what stands at a place
+-- the place after what is at a place
 abbrev pub nextPlace : ℕ → Answer → ℕ
 nextPlace at End = at
 nextPlace at (Found kind length next) = next
@@ -23,7 +23,7 @@ abbrev pub placeAfter : ℕ → Written → ℕ
 placeAfter at (Wrote n) = at + n
 placeAfter at (Refused number) = at
 
--- what the writer leaves, after what stands before the place
+-- what the writer leaves, after what comes before the place
 abbrev pub afterPlace : List ℕ → ℕ → Outcome Written → Outcome ℕ
 afterPlace line at o = outcome (placeAfter at (o .answer)) (take at line ++ o .lent)
 

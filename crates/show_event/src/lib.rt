@@ -51,7 +51,7 @@ fn say_purpose(kind: Kind) {
     }
 }
 
-// The listing's line for what stands at a place, without the end of the line.
+// The listing's line for what is at a place, without the end of the line.
 fn say_line(at: usize, answer: Answer) {
     let mut text = [0u8; 67];
     telnet_line::line(at, answer, &mut text);
@@ -71,7 +71,7 @@ fn say_meaning(answer: Answer) {
     }
 }
 
-// The place after what stands at a place.
+// The place after what is at a place.
 fn after(at: usize, answer: Answer) -> usize
     ensures { λ r. ⌜ r ≡ nextPlace at answer ⌝ }
 {

@@ -7,7 +7,7 @@ use Rattle.octets.specs.Lent.{Outcome}
 use Rattle.octets.specs.Promise.{writeFront}
 
 -- the number of two bytes; FFFF stands for the largest that a machine word has
-unfoldable pub numberOf : ℕ → ℕ → ℕ
+unfoldable pub numberOf : (high low : ℕ) → ℕ
 numberOf high low = if eqb (high * 256 + low) 65535 then 18446744073709551615 else high * 256 + low
 
 -- the number at the front; 0 where there are not two bytes
@@ -23,5 +23,5 @@ numbersOf (high ∷ []) = []
 numbersOf (high ∷ low ∷ rest) = numberOf high low ∷ numbersOf rest
 
 -- the numbers of bytes at the front of a list, and how many; none where they do not fit
-abbrev pub numbersInto : List ℕ → List ℕ → Outcome ℕ
+abbrev pub numbersInto : (bytes list : List ℕ) → Outcome ℕ
 numbersInto bytes list = writeFront (λ n. n) 0 (numbersOf bytes) list

@@ -55,7 +55,7 @@ apart {v} {w} e same = let z : _≡_ {A = Bool} true false = sym (eq-eqb (rank v
 clash : true ≡ false → ⊥
 clash e = subst T e tt
 
--- a code stands in the record where its test says so
+-- a code is in the record where its test says so
 abbrev Test : Bool → Verdict → List ℕ → Bool
 Test fault v code = same (ebcdicOf (codeOf fault v)) (ebcdicOf code)
 

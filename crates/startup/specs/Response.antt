@@ -49,7 +49,7 @@ abbrev pub _is_ : String → List ℕ → Field
 n is bs = record { name = n; bytes = bs }
 
 -- the fields in the figures' order; after the names there are zeros up to byte 73
-unfoldable pub fields : Bool → Verdict → List ℕ → List ℕ → List Field
+unfoldable pub fields : Bool → Verdict → (system device : List ℕ) → List Field
 fields fault v system device =
     ("Length pass-through data" is 0x00 ∷ 0x49 ∷ [])
     ∷ ("GDS LU6.2 header" is 0x12 ∷ 0xA0 ∷ [])
@@ -66,5 +66,5 @@ joined [] = []
 joined (f ∷ fs) = f .bytes ++ joined fs
 
 -- the record, of names in ASCII
-unfoldable pub responseOf : Bool → Verdict → List ℕ → List ℕ → List ℕ
+unfoldable pub responseOf : Bool → Verdict → (system device : List ℕ) → List ℕ
 responseOf fault v system device = joined (fields fault v system device)

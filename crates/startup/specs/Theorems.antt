@@ -26,7 +26,7 @@ abbrev pub codeAt : List ℕ → List ℕ
 codeAt r = take 4 (drop 16 r)
 
 -- a record says a code
-abbrev pub Says : List ℕ → List ℕ → Type 0
+abbrev pub Says : (r code : List ℕ) → Type 0
 Says r code = codeAt r ≡ ebcdicOf code
 
 -- what holds of the record for a fault or none, a verdict and two names
@@ -47,7 +47,7 @@ pub record Responds (fault : Bool) (v : Verdict) (system device r : List ℕ) : 
   pub disabled : Says r (ascii "0003") ↔ ((fault ≡ false) × (v ≡ Disabled))
   pub failed : Says r (ascii "0004") ↔ ((fault ≡ false) × (v ≡ Failed))
   pub success : Says r sessionStarted ↔ ((fault ≡ false) × ((v ≡ Grant) ⊎ (v ≡ Panel)))
-  -- figure 1's fields stand in a success, figure 2's in every error
+  -- figure 1's fields are in a success, figure 2's in every error
   pub succeeds : Says r sessionStarted → fixedAt r ≡ figure1
   pub fails : (Says r sessionStarted → ⊥) → fixedAt r ≡ figure2
 

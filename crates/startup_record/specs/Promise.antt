@@ -13,7 +13,7 @@ use Rattle.names.specs.Name.{isName, deviceLimit, systemLimit}
 use Rattle.signon.specs.declared.Verdict.{Verdict}
 use Rattle.startup.specs.Response.{responseOf}
 
-unfoldable pub respondInto : Bool → Verdict → List ℕ → List ℕ → List ℕ → Outcome Written
+unfoldable pub respondInto : Bool → Verdict → (system device out : List ℕ) → Outcome Written
 respondInto fault v system device out =
     if not (isName deviceLimit device) then outcome (Refused badDeviceOrSystemName) out else
     if not (isName systemLimit system) then outcome (Refused badDeviceOrSystemName) out else

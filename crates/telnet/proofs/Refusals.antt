@@ -1,4 +1,4 @@
--- What stands at the front of bytes is refused by 1, 2, 3 or 6: what holds of these four holds of the number. Assumes
+-- What is at the front of bytes is refused by 1, 2, 3 or 6: what holds of these four holds of the number. Assumes
 -- nothing.
 use mathlib.Core.List.{List, [], _∷_}
 use Prim.Native.Nat.{ℕ}

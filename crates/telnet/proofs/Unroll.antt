@@ -110,7 +110,7 @@ after-lead Simple b c bs = refl
 after-lead (Negotiates v) b c [] = refl
 after-lead (Negotiates v) b c (o ∷ bs) = refl
 
--- where no data stands at the front
+-- where there are no data at the front
 after-iac : (b : ℕ) (bs : List ℕ) → Stopped (b ∷ bs) → reading (b ∷ bs) ≡ readOn (b ∷ bs) (afterIac bs)
 unfolding readingFrom reading stepByte stops ended readOn afterIac
 after-iac b [] (at-iac e) = rw e

@@ -22,7 +22,7 @@ unfoldable mutual
   runAfterIac [] = []
   runAfterIac (c ∷ bs) = if eqb c iac then c ∷ dataRun bs else []
 
--- what stands at the front: nothing, an event, or what is refused by a number
+-- what is at the front: nothing, an event, or what is refused by a number
 pub data Front : Type 0 where
   noEvent : Front
   found : Event → Front

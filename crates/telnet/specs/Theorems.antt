@@ -44,7 +44,7 @@ WritesBack = (bs : List ℕ) → reading bs .ending ≡ well → writtenAll (rea
 abbrev pub ReadIsWritable : Type 0
 ReadIsWritable = (bs : List ℕ) → Bytes bs → T (all writable (reading bs .events))
 
--- what the reading is, given what stands at the front of the bytes
+-- what the reading is, given what is at the front of the bytes
 unfoldable pub readOn : List ℕ → Front → Reading
 readOn bs noEvent = reads [] well
 readOn bs (refused n) = reads [] (refusal n)
@@ -59,7 +59,7 @@ unfoldable pub allData : List Event → List ℕ
 allData [] = []
 allData (e ∷ es) = dataOf e ++ allData es
 
--- A record is all data up to the next end-of-record, whatever commands stand between, and reading goes on after it.
+-- A record is all data up to the next end-of-record, whatever commands come between, and reading goes on after it.
 abbrev pub RecordIsAllData : Type 0
 RecordIsAllData =
     (bs : List ℕ) (es fs : List Event) (how : Ending) → T (all (λ e. not (isEndOfRecord e)) es) → reading bs ≡ reads (es ++ command eor ∷ fs) how

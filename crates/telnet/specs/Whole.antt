@@ -27,7 +27,7 @@ reads es how = record { events = es; ending = how }
 abbrev pub before : List Event → Reading → Reading
 before es r = reads (es ++ r .events) (r .ending)
 
--- where a reader stands between two bytes
+-- where a reader is between two bytes
 pub data Mode : Type 0 where
   -- in data, with the run so far; after a 255, with the run before it
   data′ iacSeen : List ℕ → Mode
@@ -39,7 +39,7 @@ pub data Mode : Type 0 where
   -- refused
   failed : ℕ → Mode
 
--- a step: the events that it completes, and where the reader stands then
+-- a step: the events that it completes, and where the reader is then
 pub record Step : Type 0 where
   pub completes : List Event
   pub mode : Mode
@@ -60,7 +60,7 @@ leads es (Negotiates v) c = goes es (choosing v)
 leads es Simple c = goes (es ++ command c ∷ []) (data′ [])
 
 -- one more payload byte, within the limit
-unfoldable pub grown : ℕ → List ℕ → ℕ → Step
+unfoldable pub grown : (o : ℕ) → List ℕ → (b : ℕ) → Step
 grown o p b = if ltb (length p) payloadLimit then goes [] (payload o (p ++ b ∷ [])) else goes [] (failed payloadTooLong)
 
 unfoldable pub stepByte : Mode → ℕ → Step

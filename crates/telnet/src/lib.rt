@@ -38,7 +38,7 @@ pub enum Lead {
     Simple,
 }
 
-// An event without the bytes that it carries, which stand in a buffer of their own.
+// An event without the bytes that it carries, which are in a buffer of their own.
 pub enum Kind {
     Data,
     Command(u8),

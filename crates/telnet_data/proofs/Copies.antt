@@ -86,7 +86,7 @@ module _ (s : List ℕ) (at : ℕ) (out : List ℕ) (to : ℕ) {r : Extent} {l :
   unfolding count
   run-some h = omega (arith, number, length-take (length out - to) (dataRun (drop at s)))
 
-  -- where nothing is copied the buffer is as it was, and nothing stands there if there is room
+  -- where nothing is copied the buffer is as it was, and nothing is there if there is room
   pub run-none : r .count ≡ 0 → l ≡ out
   unfolding copyRun copied
   run-none h = ap (λ (o : Outcome Extent). o .lent) e ∙ ap (overwrite out to) (empty _ (sym number ∙ h)) ∙ overwrite-nil out to

@@ -1,4 +1,4 @@
--- The laws of a stretch: it is one piece after another, plain bytes or a doubled 255, and ends where neither stands.
+-- The laws of a stretch: it is one piece after another, plain bytes or a doubled 255, and ends where there is neither.
 -- Assumes nothing.
 use mathlib.Core.Path.{_≡_, refl, sym, ap, _∙_}
 use mathlib.Core.Bool.{Bool, true, false, _&&_}
@@ -68,7 +68,7 @@ doubled-front (b ∷ c ∷ bs) h = go (eqb b iac) refl (eqb c iac) refl
     go true e false f = let z : _≡_ {A = Bool} false true = rw (e, f) at h in cc
     go false e u f = let z : _≡_ {A = Bool} false true = rw e at h in cc
 
--- where the plain bytes end, no data stand but after a doubled 255
+-- where the plain bytes end, there are no data but after a doubled 255
 plain-stops : (bs : List ℕ) → isDoubled (drop (length (upTo iac bs)) bs) ≡ false → dataRun (drop (length (upTo iac bs)) bs) ≡ []
 unfolding dataRun isDoubled upTo
 plain-stops [] h = refl
@@ -127,7 +127,7 @@ module _ (s : List ℕ) (i : ℕ) where
   unfolding doubled
   doubled-piece h = record { bytes = rw (← drop-drop 2 i s) (doubled-front (drop i s) h); place = refl }
 
-  -- where neither stands, or the line ends, the stretch ends
+  -- where there is neither, or the line ends, the stretch ends
   pub stopped : (j : ℕ) → j ≡ i + plain s i → isDoubled (drop j s) ≡ false → dataRun (drop j s) ≡ []
   stopped j e h = rw (e, ← drop-drop (plain s i) i s) (plain-stops (drop i s) (rw (e, ← drop-drop (plain s i) i s) at h))
 
@@ -135,7 +135,7 @@ module _ (s : List ℕ) (i : ℕ) where
   unfolding dataRun
   ended h = rw (drop-of-length-le s {i = i} h)
 
-  -- whether a doubled 255 stands at a place, by the bytes there
+  -- whether a doubled 255 is at a place, by the bytes there
   pub doubled-short : length s < i + 2 → isDoubled (drop i s) ≡ false
   unfolding isDoubled
   doubled-short h = short (drop i s) (omega (arith, length-drop i s))

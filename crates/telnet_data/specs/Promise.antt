@@ -20,9 +20,9 @@ unfoldable pub extentAt : List ℕ → ℕ → Extent
 extentAt s at = record { count = count (drop at s); end = at + span (drop at s) }
 
 -- bytes of the stretch at a place, put at a place of a buffer: how many they are, and the place of the line after them
-unfoldable pub copied : ℕ → List ℕ → ℕ → List ℕ → Outcome Extent
+unfoldable pub copied : (at : ℕ) (out : List ℕ) (to : ℕ) (d : List ℕ) → Outcome Extent
 copied at out to d = outcome (record { count = length d; end = at + length (doubled d) }) (overwrite out to d)
 
 -- as much of the stretch at a place as a buffer has room for from a place on, put there
-unfoldable pub copyRun : List ℕ → ℕ → List ℕ → ℕ → Outcome Extent
+unfoldable pub copyRun : (s : List ℕ) (at : ℕ) (out : List ℕ) (to : ℕ) → Outcome Extent
 copyRun s at out to = copied at out to (take (length out - to) (dataRun (drop at s)))

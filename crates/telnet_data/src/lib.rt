@@ -14,7 +14,7 @@ pub struct Extent {
     pub end: usize,
 }
 
-// Whether a doubled 255 stands at a place.
+// Whether a doubled 255 is at a place.
 fn is_doubled(s: &[u8], at: usize) -> bool
     ensures { λ r. ⌜ r ≡ isDoubled (drop at (now (s .entry))) ⌝ }
 {

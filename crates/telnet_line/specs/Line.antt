@@ -43,7 +43,7 @@ unfoldable pub endingText : Ending → List ℕ
 endingText well = ascii "END"
 endingText (refusal n) = said (ascii "REFUSED") n
 
--- what stands at a place, as the reader answers it
+-- what is at a place, as the reader answers it
 unfoldable pub answerText : Answer → List ℕ
 answerText End = endingText well
 answerText (Found k n next) = text k n

@@ -22,7 +22,7 @@ fn zeros() -> [u8; 67]
     [0u8; 67]
 }
 
-// The line of what stands at a place.
+// The line of what is at a place.
 pub fn line_text(place: usize, answer: Answer) -> LineText
     ensures { λ r. ⌜ r ≡ textOfLine (lineOf place (answerText answer)) ⌝ }
 {
@@ -32,7 +32,7 @@ pub fn line_text(place: usize, answer: Answer) -> LineText
     LineText { bytes, length }
 }
 
-// The line of what stands at a place, put to the front of the buffer.
+// The line of what is at a place, put to the front of the buffer.
 pub fn line(place: usize, answer: Answer, out: &mut [u8]) -> Written
     ensures { λ r. ⌜ outcome r (now (out .exit)) ≡ writtenInto (lineOf place (answerText answer)) (now (out .entry)) ⌝ }
 {

@@ -141,7 +141,7 @@ fn kind_phrase(kind: Kind, length: usize) -> Phrase
     }
 }
 
-// What a line says of what stands at a place.
+// What a line says of what is at a place.
 pub(crate) fn answer_phrase(answer: Answer) -> Phrase
     ensures { λ r. ⌜ IsPhrase (answerText answer) r ⌝ }
 {

@@ -1,4 +1,4 @@
--- The lines from a place on, turn by turn: the line of what stands there, and then those from the next place on, if
+-- The lines from a place on, turn by turn: the line of what is there, and then those from the next place on, if
 -- there is one. Assumes nothing.
 use mathlib.Core.Path.{_≡_, refl, sym, ap, ap₂, _∙_, subst}
 use mathlib.Core.List.{List, [], _++_, append-nil}
@@ -31,7 +31,7 @@ pub lines-all : (s : List ℕ) → linesAt s 0 ≡ listing s
 unfolding linesAt listing
 lines-all s = refl
 
--- what is left to list after what stands at a place
+-- what is left to list after what is at a place
 abbrev pub after : List ℕ → Answer → List ℕ
 after s End = []
 after s (Found k n next) = linesAt s next

@@ -40,7 +40,7 @@ Small (command c) = c < 256
 Small (negotiation v o) = o < 256
 Small (subnegotiation o p) = o < 256
 
--- what stands at the front of bytes: a small event, or a refusal by a number of one digit
+-- what is at the front of bytes: a small event, or a refusal by a number of one digit
 abbrev Plain : Front → Type 0
 Plain noEvent = Unit {0}
 Plain (found e) = Small e

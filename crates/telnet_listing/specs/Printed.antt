@@ -28,5 +28,5 @@ abbrev pub Fits : Type 0
 Fits = (bs : List ℕ) → Bytes bs → length (printed bs) ≤ room
 
 -- a text put to the front of a buffer, and its length
-abbrev pub atFront : List ℕ → List ℕ → Outcome ℕ
+abbrev pub atFront : (words buffer : List ℕ) → Outcome ℕ
 atFront words buffer = outcome (length words) (overwrite buffer 0 words)

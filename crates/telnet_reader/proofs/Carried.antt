@@ -1,4 +1,4 @@
--- Where the bytes that an event carries stand: after its lead-in they are the stretch there. Assumes nothing.
+-- Where the bytes that an event carries are: after its lead-in they are the stretch there. Assumes nothing.
 use mathlib.Core.Path.{_≡_, refl, sym, ap, subst, _∙_}
 use mathlib.Core.Bool.{Bool, true, false}
 use mathlib.Core.List.{List, [], _∷_}
@@ -31,7 +31,7 @@ use Rattle.telnet_reader.proofs.Places.{look-run}
 use Rattle.telnet_reader.specs.Promise.{answered, lookAt, delivered, readAt}
 use Rattle.refusal.specs.Refusal.{noRoom, pastTheEnd}
 
--- an event that stands at the front: it takes at least one byte and none past the end, what it carries is the stretch
+-- an event that is at the front: it takes at least one byte and none past the end, what it carries is the stretch
 -- after its lead-in, and its data, if any, the stretch at the front
 pub record Stands (bs : List ℕ) (e : Event) : Type 0 where
   pub carried-is : carriedBytes e ≡ dataRun (drop (leadIn (kind e)) bs)

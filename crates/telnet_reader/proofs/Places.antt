@@ -1,4 +1,4 @@
--- What stands at a place, by the bytes there: the laws that each way out of the reader cites. Assumes nothing.
+-- What is at a place, by the bytes there: the laws that each way out of the reader cites. Assumes nothing.
 use mathlib.Core.Path.{_≡_, refl, sym, ap, _∙_}
 use mathlib.Core.List.{List, [], _∷_}
 use Prim.Native.Nat.{ℕ, _+_, _≤_, _<_}
@@ -43,7 +43,7 @@ module _ (s : List ℕ) (at : ℕ) where
   abbrev tail : ℕ
   tail = at + 3 + span (drop (at + 3) s)
 
-  -- an option byte stands there
+  -- an option byte is there
   option-front : at + 2 < length s → drop (at + 2) s ≡ getD s (at + 2) 0 ∷ drop (at + 3) s
   option-front h = at-front s (at + 2) h ∙ ap (λ k. getD s (at + 2) 0 ∷ drop k s) (add-assoc at 2 1)
 

@@ -16,7 +16,7 @@ use Rattle.octets.specs.Choice.{if_then_else_}
 use Rattle.octets.specs.Lent.{Outcome, outcome}
 use Rattle.octets.specs.Promise.{writeFront}
 
--- what stands at a place, as an answer: an event takes as many bytes as it is written with
+-- what is at a place, as an answer: an event takes as many bytes as it is written with
 unfoldable pub answered : ℕ → Front → Answer
 answered at noEvent = End
 answered at (found e) = Found (kind e) (length (carriedBytes e)) (at + length (written e))
@@ -26,14 +26,14 @@ answered at (refused n) = Refused n
 unfoldable pub lookAt : List ℕ → ℕ → Answer
 lookAt s at = if ltb (length s) at then Refused pastTheEnd else answered at (eventOf (drop at s))
 
--- what stands at a place, with the bytes that it carries put into the buffer
+-- what is at a place, with the bytes that it carries put into the buffer
 unfoldable pub delivered : ℕ → Front → List ℕ → Outcome Answer
 delivered at noEvent out = outcome End out
 delivered at (refused n) out = outcome (Refused n) out
 delivered at (found e) out = writeFront (λ _. answered at (found e)) (Refused noRoom) (carriedBytes e) out
 
 -- the event at a place, read
-unfoldable pub readAt : List ℕ → ℕ → List ℕ → Outcome Answer
+unfoldable pub readAt : (s : List ℕ) → ℕ → (out : List ℕ) → Outcome Answer
 readAt s at out = if ltb (length s) at then outcome (Refused pastTheEnd) out else delivered at (eventOf (drop at s)) out
 
 -- the number that the reader refuses by

@@ -14,7 +14,7 @@ use telnet::PAYLOAD_LIMIT;
 use telnet::SE;
 use telnet::Verb;
 
-// What stands at a place: nothing more, an event with the number of bytes that it carries and the place after it, or a
+// What is at a place: nothing more, an event with the number of bytes that it carries and the place after it, or a
 // refusal.
 pub enum Answer {
     End,
@@ -26,7 +26,7 @@ pub enum Answer {
     Refused(u8),
 }
 
-// What stands at a 255 with the byte after it.
+// What is at a 255 with the byte after it.
 fn command(s: &[u8], at: usize) -> Answer
     requires { ⌜ at < length (now s) ⌝ }
     ensures { λ r. ⌜ r ≡ answered at (afterIac (drop (at + 1) (now (s .entry)))) ⌝ }

@@ -34,7 +34,7 @@ use Rattle.telnet_reader.proofs.Places.{looked, look-run}
 use Rattle.telnet.proofs.Stretch.{doubled-longer}
 use Rattle.telnet_reader.proofs.Carried.{event-stands}
 
--- the record at the front, by what stands there
+-- the record at the front, by what is there
 record-unrolled : (bs : List ℕ) → recordOf bs ≡ gathered (readOn bs (eventOf bs) .events) (readOn bs (eventOf bs) .ending)
 unfolding recordOf
 record-unrolled bs = ap (λ r. gathered (r .events) (r .ending)) (unrolled bs)
@@ -87,7 +87,7 @@ sized-joined n i e (complete d w) =
     (sym (add-assoc i (length (written e)) w))
 sized-joined n i e (noRecord how) = refl
 
--- an event that `look` found, as it stands at the place
+-- an event that `look` found, as it is at the place
 pub record LookedAt (s : List ℕ) (i : ℕ) (k : Kind) (n x : ℕ) : Type 0 where
   pub event : Event
   pub is : eventOf (drop i s) ≡ found event
@@ -162,7 +162,7 @@ module _ (s : List ℕ) (i : ℕ) (h : i ≤ length s) where
   unfolding dataAt recordData
   data-refused n e = rw (record-refused (drop i s) n (event-refused n e))
 
-  -- where data are left, the event's own stand at the place and the others after it
+  -- where data are left, the event's own are at the place and the others after it
   pub data-goes : (k : Kind) (l x : ℕ) → lookAt s i ≡ Found k l x → 0 < length (dataAt s i)
       → (dataLength k l ≡ length (dataRun (drop i s))) × (dataAt s i ≡ dataRun (drop i s) ++ dataAt s x)
   unfolding dataAt recordData

@@ -25,7 +25,7 @@ kept at (noRecord how) out = outcome (answerNoRecord how) out
 kept at (complete d n) out = writeFront (λ length. Complete length (at + n)) (NoRecord noRoom) d out
 
 -- the record from a place on, read
-unfoldable pub recordAt : List ℕ → ℕ → List ℕ → Outcome Record
+unfoldable pub recordAt : (s : List ℕ) → ℕ → (out : List ℕ) → Outcome Record
 recordAt s at out = if ltb (length s) at then outcome (NoRecord pastTheEnd) out else kept at (recordOf (drop at s)) out
 
 -- the number that it refuses by

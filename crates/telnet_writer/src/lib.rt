@@ -101,7 +101,7 @@ fn write_subnegotiation(option: u8, payload: &[u8], out: &mut [u8]) -> Written
     Written::Wrote(end + 2)
 }
 
-// Writes an event to the front of the buffer; the bytes that it carries stand in `payload`. A refusal leaves the buffer
+// Writes an event to the front of the buffer; the bytes that it carries are in `payload`. A refusal leaves the buffer
 // as it was.
 pub fn write(kind: Kind, payload: &[u8], out: &mut [u8]) -> Written
     ensures { λ r. ⌜ outcome r (now (out .exit)) ≡ writeOf (event kind (now (payload .entry))) (now (out .entry)) ⌝ }

@@ -7,7 +7,7 @@ use Prim.Native.Nat.{ℕ, _+_, _-_, _*_, _/_, _%_, _≤_, _<_}
 use lib.ListN.{length, replicate}
 use Rattle.words.specs.BigEndian.{bytes}
 
--- how many zero bits stand after the bit 1 of a message of ℓ bits
+-- how many zero bits come after the bit 1 of a message of ℓ bits
 unfoldable pub zeroBits : ℕ → ℕ → ℕ → ℕ
 zeroBits B L ℓ = B - 1 - (ℓ + L) % B
 

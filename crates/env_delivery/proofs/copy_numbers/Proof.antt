@@ -1,4 +1,4 @@
--- `env_delivery::copy_numbers` meets its contract: the numbers from where the loop stands, put there, give the list
+-- `env_delivery::copy_numbers` meets its contract: the numbers from where the loop is, put there, give the list
 -- with all of them. The measure is `length from - i`. Assumes nothing.
 use mathlib.Core.Path.{_≡_, refl, sym, ap, _∙_}
 use Prim.Native.Nat.{_-_, _≤_}

@@ -1,5 +1,5 @@
--- `env_list::read_records` meets its contract: a walk of its code. It makes a local of 320 numbers and calls three
--- functions, of which it knows the contracts alone: `read_numbers`, to which the local is lent as `&mut`; `count_of`;
+-- `env_list::read_records` meets its contract: a walk of its code. It makes a local of `LIST_LIMIT` numbers and calls
+-- three functions, of which it knows the contracts alone: `read_numbers`, to which the local is lent as `&mut`; `count_of`;
 -- and `set_all`, to which it is lent as `&` (`Buffer`). The buffer and the list of records go to the first and the last
 -- at their own lifetimes, and are not needed after. What the three promise together is `Numbered`, which says what this
 -- function promises. A comment in brackets is the context at that point, in its order; a local and what frees it are
@@ -84,7 +84,7 @@ word = tyInt w64
 abbrev stayed : Stays (reader.ended .signature .params) (reader.ended .kept)
 stayed = (stay-none-slice (0 ∷ []) tt (plain (λ _. u8)) yes, (gave-slice (1 ∷ []) tt (plain (λ _. u8)), (gave-slice (2 ∷ []) tt (plain (λ _. T.the-row)), tt)))
 
--- the local's 320 numbers
+-- the local's numbers
 abbrev size : ℕ
 size = listLimit
 

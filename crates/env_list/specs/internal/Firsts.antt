@@ -23,7 +23,7 @@ countOf (Refused n) = 0
 
 -- an answer, a buffer and numbers as they are left: for every list of `room` records, replacing its first `countOf
 -- answer` by those of `numbers` gives `readRecords`
-abbrev pub Numbered : List ℕ → List ℕ → ℕ → Answer → List ℕ → List ℕ → Type 0
+abbrev pub Numbered : (payload bytes : List ℕ) → ℕ → Answer → (left numbers : List ℕ) → Type 0
 Numbered payload bytes room answer left numbers =
     (list : List VariableRecord) → length list ≡ room
     → (countOf answer ≤ room)

@@ -1,4 +1,4 @@
--- `env_text::extent_at` meets its contract: the text from where the loop stands is what is left of the whole. The
+-- `env_text::extent_at` meets its contract: the text from the loop's place on is what is left of the whole. The
 -- measure is `length s - i`. Assumes nothing.
 use borrow.Author.Needs.{needs}
 use mathlib.Core.Path.{_≡_, refl, ap, _∙_}

@@ -1,4 +1,4 @@
--- `env_text::text_at` meets its contract: past the end no text stands, and within the bytes it is the one that was
+-- `env_text::text_at` meets its contract: past the end there is no text, and within the bytes it is the one that was
 -- scanned. Assumes nothing.
 use native.Mathlib.Omega.{arith}
 use borrow.Author.Needs.{needs}

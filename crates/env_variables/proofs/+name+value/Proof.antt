@@ -80,7 +80,7 @@ module _ (t : ℕ) where
   abbrev value-start : value-taken → value-lts.Start (value-claims t) (value-at t) value.Post
   value-start c = c .before .before .before .before .before
 
-  -- a VAR or USERVAR stands before the name
+  -- a VAR or USERVAR comes before the name
   opens-here : (c : name-opened) → isKind (getD (name-start c .args .rest .now) 0 0) ≡ true
   opens-here c = sym (c .before .opens .ensures) ∙ not-false (c .before .opens .result) (c .if3 .left)
 
@@ -95,7 +95,7 @@ module _ (t : ℕ) where
   is-whole : (c : name-whole) → taken-before c .take-text .result .whole ≡ true
   is-whole c = not-false (taken-before c .take-text .result .whole) (c .if5 .left)
 
-  -- after it stands the end, or a byte that ends a text
+  -- after it comes the end, or a byte that ends a text
   marked : (c : name-whole) → endsText (drop (taken-before c .take-text .result .end) (name-start (opened-before (taken-before c)) .args .rest .now)) ≡ true
   marked c = taken-before c .take-text .ensures .mark (is-whole c)
 

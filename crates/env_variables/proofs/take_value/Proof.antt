@@ -1,4 +1,4 @@
--- `env_variables::take_value` meets its contract: no VALUE stands there, or it is the text after the VALUE. Assumes
+-- `env_variables::take_value` meets its contract: there is no VALUE, or it is the text after the VALUE. Assumes
 -- nothing.
 use mathlib.Core.Path.{sym, _∙_}
 use native.Mathlib.Omega.{arith}

@@ -15,7 +15,7 @@ pub record Buffers : Type 0 where
   pub bytes : List ℕ
   pub numbers : List ℕ
 
-abbrev pub buffers : List ℕ → List ℕ → Buffers
+abbrev pub buffers : (b n : List ℕ) → Buffers
 buffers b n = record { bytes = b; numbers = n }
 
 -- bytes and numbers that were put where buffer and list had room for them; the answer is how many variables there are
@@ -28,6 +28,6 @@ pub record Stored (x ns : List ℕ) (count at k : ℕ) (before : Buffers) (r : A
   pub records : after .numbers ≡ overwrite (before .numbers) (recordWidth * k) ns
 
 -- variables from a place on, as records k and following; after a fault nothing is said of buffer and list
-unfoldable pub NameRead : Found → ℕ → ℕ → Buffers → Answered → Buffers → Type 0
+unfoldable pub NameRead : Found → (at k : ℕ) → Buffers → Answered → Buffers → Type 0
 NameRead (fault n) at k before r after = r ≡ Fault n
 NameRead (variables vs) at k before r after = Stored (packed vs) (recorded at vs) (k + length vs) at k before r after

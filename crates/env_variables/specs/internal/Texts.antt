@@ -11,7 +11,7 @@ use Rattle.env.specs.Variable.{VALUE}
 use Rattle.env.specs.Fields.{text, broken, row, rowOf}
 use Rattle.octets.specs.Lent.{overwrite}
 
--- a VALUE stands at the front
+-- a VALUE is at the front
 unfoldable pub givesValue : List ℕ → Bool
 givesValue [] = false
 givesValue (b ∷ bs) = eqb b VALUE

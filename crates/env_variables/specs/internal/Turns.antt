@@ -18,7 +18,7 @@ use Rattle.refusal.specs.Refusal.{noVariable, badEscape, valueInValue}
 use Rattle.octets.specs.Lent.{overwrite}
 
 -- what the name reader finds, where there are k variables already
-abbrev pub fromName : ℕ → ℕ → Row → Found
+abbrev pub fromName : (number k : ℕ) → Row → Found
 fromName number k r = expectNoText (r .front) (names number k (r .fields))
 
 -- what the value reader finds: a value and the variables after it, or a fault
@@ -41,8 +41,8 @@ unfoldable pub completed : ℕ → List ℕ → Valued → Found
 completed kind name (valued v vs) = variables (variable kind name v ∷ vs)
 completed kind name (badValue n) = fault n
 
--- the value after a name, none where no VALUE stands: broken, or whole and put at a place of the buffer, with what the
--- name reader finds after it
+-- the value after a name, none where there is no VALUE: broken, or whole and put at a place of the buffer, with what
+-- the name reader finds after it
 pub record IsValue (rest bytes₀ : List ℕ) (at : ℕ) (r : Text) (bytes : List ℕ) : Type 0 where
   pub value : List ℕ
   pub bad : r .whole ≡ false → (k : ℕ) → fromValue k (rowOf rest .fields) ≡ badValue badEscape
@@ -61,7 +61,7 @@ pub record HasRoom (rest : List ℕ) (at k : ℕ) (b : Buffers) : Type 0 where
   pub count : k ≤ variableLimit
 
 -- the same after a name of n bytes that is there already
-unfoldable pub ValueRead : Valued → ℕ → ℕ → ℕ → ℕ → Buffers → Answered → Buffers → Type 0
+unfoldable pub ValueRead : Valued → (kind at n k : ℕ) → Buffers → Answered → Buffers → Type 0
 ValueRead (badValue m) kind at n k before r after = r ≡ Fault m
 ValueRead (valued v vs) kind at n k before r after =
     Stored (v ++ packed vs) (numbersOf (variableRecord kind at n (at + n) (length v)) ++ recorded (at + n + length v) vs) (k + suc (length vs)) (at + n) k before r after

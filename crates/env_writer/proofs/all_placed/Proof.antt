@@ -1,4 +1,4 @@
--- `env_writer::all_placed` meets its contract: where the loop stands, the records from there on decide. The measure is
+-- `env_writer::all_placed` meets its contract: where the loop is, the records from there on decide. The measure is
 -- `length numbers / recordWidth - i`. Assumes nothing.
 use mathlib.Core.Path.{_≡_, refl, sym, ap, _∙_}
 use mathlib.Core.Bool.{_&&_}

@@ -1,4 +1,4 @@
--- `env_writer::put_all` meets its contract: what is left to write, written where the loop stands, gives the whole. The
+-- `env_writer::put_all` meets its contract: what is left to write, written where the loop is, gives the whole. The
 -- measure is `length numbers / recordWidth - i`. Assumes nothing.
 use mathlib.Core.Path.{_≡_, refl, sym, ap, ap₂, _∙_}
 use mathlib.Core.Bool.{true}

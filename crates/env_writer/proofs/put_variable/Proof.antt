@@ -62,7 +62,7 @@ start c = c .before .before .before .before .before .before .before .before
 abbrev left : tie.After-put-marked → List ℕ
 left c = c .put-marked .last .1 .1 .1 .1 .0
 
--- the name stands after the kind
+-- the name comes after the kind
 named : (c : tie.After-put-marked)
     → let s = start c in
     (c .put-marked .result ≡ s .args .at + 1 + length (name s))

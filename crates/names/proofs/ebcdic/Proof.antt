@@ -74,7 +74,7 @@ returns-8 : tie.Need-returns-8
 unfolding ebcdic
 returns-8 c = agree (λ b. 0xE2 + (b - 0x53)) ebcdic 0x53 8 refl (c .before .before .before .before .before .before .before .args .b) (omega arith) (omega arith)
 
--- what stands before, between and after them, off the signs
+-- what comes before, between and after them, off the signs
 returns-9 : tie.Need-returns-9
 unfolding ebcdic sign
 returns-9 c =

@@ -1,5 +1,5 @@
 -- `octets_find::is_among` meets its contract. The loop's invariant: the byte was found exactly when fewer than j bytes
--- stand before it. The measure is `8 - j`. Assumes nothing.
+-- come before it. The measure is `8 - j`. Assumes nothing.
 use mathlib.Core.Path.{_≡_, sym, _∙_}
 use mathlib.Core.Logic.{⊎-elim}
 use Prim.Native.Nat.{_+_, _-_, _≤_, _<_, zero-le}

@@ -1,5 +1,5 @@
 -- `octets_marked::put_marked` meets its contract. The loop's invariant: what is left to write, written where the loop
--- stands, gives the whole. The measure is how many bytes are left. Assumes nothing.
+-- is, gives the whole. The measure is how many bytes are left. Assumes nothing.
 use mathlib.Core.Path.{_≡_, sym, ap₂, _∙_}
 use Prim.Native.Nat.{_+_, _-_, _≤_}
 use native.Mathlib.Omega.{arith}

@@ -7,7 +7,7 @@ use Rattle.octets.specs.Lent.{overwrite}
 use Rattle.octets_marked.specs.Marked.{marked}
 
 -- none of n bytes at a place has a mark: they are put as they are, and then what is after them
-abbrev pub Plain : ℕ → ℕ → ℕ → List ℕ → ℕ → ℕ → Type 0
+abbrev pub Plain : (mark low high : ℕ) → List ℕ → (at n : ℕ) → Type 0
 Plain mark low high s at n = marked mark low high (drop at s) ≡ take n (drop at s) ++ marked mark low high (drop (at + n) s)
 
 -- the bytes from place i to place j were put: what is still to be put, after them, is what was to be put

@@ -36,13 +36,13 @@ turns turn (suc n) i s line = turns turn n (suc i) (turn i s line .answer) (turn
 abbrev pub asks : ℕ → Sent → List ℕ → Outcome Sent
 asks i s line = requestedOn (s .sides) (whoseAt i) (optionAt i) on line (s .place)
 
-abbrev pub hears : List ℕ → ℕ → Sent → List ℕ → Outcome Sent
+abbrev pub hears : (heard : List ℕ) → ℕ → Sent → (line : List ℕ) → Outcome Sent
 hears heard i s line = heardOn (s .sides) heard (3 * i) true line (s .place)
 
 abbrev pub askedAll : List ℕ → Outcome Sent
 askedAll line = turns asks 6 0 (sent allOff 0 0) line
 
-abbrev pub heardAll : Sent → List ℕ → List ℕ → Outcome Sent
+abbrev pub heardAll : Sent → (heard line : List ℕ) → Outcome Sent
 heardAll first heard line = turns (hears heard) 6 0 first line
 
 abbrev pub isOn : Side → Bool

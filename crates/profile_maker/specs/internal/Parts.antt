@@ -12,5 +12,5 @@ pub record SaysDes (name password : List ℕ) (asked allowed : Bool) (token : Li
   pub bytes : token ≡ desTokenBytes name password
 
 -- a record of flags, a name and two tokens
-abbrev pub laidOut : ℕ → List ℕ → List ℕ → List ℕ → List ℕ
+abbrev pub laidOut : ℕ → (name des sha : List ℕ) → List ℕ
 laidOut flags name des sha = 0 ∷ (30 + length name) ∷ flags ∷ length name ∷ (name ++ (des ++ sha))

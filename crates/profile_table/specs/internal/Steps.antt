@@ -27,7 +27,7 @@ abbrev pub scan : ℕ → Found → Scan
 scan n f = record { count = n; found = f }
 
 -- the result of a scan that has `count` and `found` at `at`, given the reading of the rest
-abbrev pub continued : List ℕ → ℕ → ℕ → Found → TableReading → Scan
+abbrev pub continued : List ℕ → (count at : ℕ) → Found → TableReading → Scan
 continued name count at found (profiles ps) = scan (count + length ps) (orElse found (foundFrom at name ps))
 continued name count at found (tableRefused n) = scan 0 (Refused n)
 

@@ -1,4 +1,4 @@
--- `run_env_list::say_records` is safe and ends: a record stands at each step. The measure is how many are left. Assumes
+-- `run_env_list::say_records` is safe and ends: a record is at each step. The measure is how many are left. Assumes
 -- nothing.
 use mathlib.Core.Path.{_≡_}
 use Prim.Native.Nat.{_-_}

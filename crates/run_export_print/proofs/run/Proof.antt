@@ -1,5 +1,5 @@
--- `run_export_print::run` is safe and ends: a line ends within the text. The measure is what is left of the text. Assumes
--- nothing.
+-- `run_export_print::run` is safe and ends: a line ends within the text. The measure is what is left of the text.
+-- Assumes nothing.
 use Prim.Native.Nat.{_-_}
 use lib.ListN.{length}
 use borrow.Author.Needs.{needs}

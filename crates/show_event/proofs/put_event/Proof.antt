@@ -1,4 +1,4 @@
--- `show_event::put_event` meets its contract: what the writer leaves stands from the place on. Assumes nothing.
+-- `show_event::put_event` meets its contract: what the writer leaves is there from the place on. Assumes nothing.
 use native.Mathlib.Omega.{arith}
 use borrow.Author.Needs.{needs}
 use Rattle.refusal.specs.declared.Written.the-variants.{Wrote, Refused}

@@ -1,4 +1,4 @@
--- `show_numbers::number_at` meets its contract: two bytes stand at the place, or fewer are left from there on. Assumes
+-- `show_numbers::number_at` meets its contract: two bytes are at the place, or fewer are left from there on. Assumes
 -- nothing.
 use mathlib.Core.Path.{sym, _∙_}
 use native.Mathlib.Omega.{arith}

@@ -9,7 +9,7 @@ use Rattle.names.specs.Name.{isName, deviceLimit, systemLimit}
 use Rattle.names.specs.Padding.{filled}
 use Rattle.startup.specs.Response.{fixedFields}
 
-abbrev pub laidOut : List ℕ → List ℕ → List ℕ → List ℕ
+abbrev pub laidOut : (code system device : List ℕ) → List ℕ
 laidOut code system device =
     ((((0x00 ∷ 0x49 ∷ 0x12 ∷ 0xA0 ∷ [] ++ fixedFields code) ++ filled blank 4 (ebcdicOf code)) ++ filled blank systemLimit (ebcdicOf system))
     ++ filled blank deviceLimit (ebcdicOf device))

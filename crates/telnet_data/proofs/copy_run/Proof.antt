@@ -1,4 +1,4 @@
--- `telnet_data::copy_run` meets its contract. The invariant: what stands in the buffer up to the place where the loop
+-- `telnet_data::copy_run` meets its contract. The invariant: what is in the buffer up to the place where the loop
 -- is are the bytes of the stretch up to the place of the line. The measure is the room that is left. Assumes nothing.
 use mathlib.Core.Path.{sym, _∙_}
 use Prim.Native.Nat.{_+_, _-_}

@@ -1,4 +1,4 @@
--- `telnet_data::measure` meets its contract. The invariant: so many bytes of the stretch as are counted stand before
+-- `telnet_data::measure` meets its contract. The invariant: as many bytes of the stretch as are counted come before
 -- the place where the loop is. The measure is what is left of the line. Assumes nothing.
 use mathlib.Core.Path.{sym, _∙_}
 use Prim.Native.Nat.{_+_, _-_}

@@ -11,13 +11,13 @@ use Rattle.octets.specs.Find.{upTo}
 use Rattle.octets.specs.Lent.{overwrite}
 use Rattle.telnet.specs.Event.{iac}
 
--- whether a doubled 255 stands at the front
+-- whether a doubled 255 is at the front
 unfoldable pub isDoubled : List ℕ → Bool
 isDoubled [] = false
 isDoubled (b ∷ []) = false
 isDoubled (b ∷ c ∷ bs) = eqb b iac && eqb c iac
 
--- how many plain bytes stand at a place, before the next 255
+-- how many plain bytes are at a place, before the next 255
 abbrev pub plain : List ℕ → ℕ → ℕ
 plain s at = length (upTo iac (drop at s))
 

@@ -1,5 +1,5 @@
 -- `telnet_records::copy_record` meets its contract. The invariant: what is left of the record, written where the loop
--- stands, gives the whole. The measure is what is left of the line. Assumes nothing.
+-- is, gives the whole. The measure is what is left of the line. Assumes nothing.
 use mathlib.Core.Path.{_≡_, sym, ap, _∙_}
 use mathlib.Core.List.{[]}
 use Prim.Native.Nat.{_+_, _-_, _≤_}

@@ -1,4 +1,4 @@
--- `telnet_records::pass_event` meets its contract: an event stands there, since data of the record are left. Assumes
+-- `telnet_records::pass_event` meets its contract: an event is there, since data of the record are left. Assumes
 -- nothing.
 use mathlib.Core.Path.{sym, ap, _∙_}
 use native.Mathlib.Omega.{arith}

@@ -34,13 +34,13 @@ endsRecord (Command c) = eqb c eor
 endsRecord (Negotiation v o) = false
 endsRecord (Subnegotiation o) = false
 
--- a record that stands from place i on, after n bytes of data
-unfoldable pub sized : ℕ → ℕ → Gathered → Record
+-- a record that begins at place i, after n bytes of data
+unfoldable pub sized : (n i : ℕ) → Gathered → Record
 sized n i (complete d w) = Complete (n + length d) (i + w)
 sized n i (noRecord how) = answerNoRecord how
 
 -- the record from place i on, after n bytes of data
-unfoldable pub sizedAt : List ℕ → ℕ → ℕ → Record
+unfoldable pub sizedAt : List ℕ → (n i : ℕ) → Record
 sizedAt s n i = sized n i (recordOf (drop i s))
 
 -- the data of the record at the front, none where it is lacking
@@ -49,7 +49,7 @@ recordData (complete d w) = d
 recordData (noRecord how) = []
 
 -- one event further: the record is the same from there, or is known
-abbrev pub Advanced : List ℕ → ℕ → ℕ → Progress → Type 0
+abbrev pub Advanced : List ℕ → (i n : ℕ) → Progress → Type 0
 Advanced s i n (More p c) = (sizedAt s n i ≡ sizedAt s c p) × (i < p) × (p ≤ length s) × (c ≤ p)
 Advanced s i n (Done r) = sizedAt s n i ≡ r
 

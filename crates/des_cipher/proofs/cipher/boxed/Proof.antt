@@ -1,4 +1,4 @@
--- `des_cipher::cipher::boxed` meets its contract: the mask leaves the six bits that count, and the number stands at its
+-- `des_cipher::cipher::boxed` meets its contract: the mask leaves the six bits that count, and the number is at its
 -- place of the array. Assumes nothing.
 use mathlib.Core.List.{List, []}
 use Prim.Native.Nat.{ℕ, _-_, _*_, _/_, _^_}

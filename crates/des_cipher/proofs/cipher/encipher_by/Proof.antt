@@ -1,4 +1,4 @@
--- `des_cipher::cipher::encipher_by` meets its contract: the iterations still to come, from where L and R stand, give
+-- `des_cipher::cipher::encipher_by` meets its contract: the iterations still to come, from where L and R are, give
 -- the whole. The measure is `16 - i`. Assumes nothing.
 use mathlib.Core.Path.{_≡_, refl, sym, ap, _∙_}
 use mathlib.Core.List.{List, []}

@@ -8,7 +8,7 @@ use Rattle.des.proofs.Linear.{Linear, as-it-is, down, cut, up, keep, after, _�
 use Rattle.des_cipher.proofs.cipher.permute_p.Statement.{statement}
 use Rattle.des_cipher.proofs.cipher.permute_p.Tie as tie
 
--- the bits under m of the word that stands there twice, shifted right by k
+-- the bits under m of the word that is there twice, shifted right by k
 turned : (k m : ℕ) → Linear (λ x. bitAnd (bitXor (x * 2 ^ 32 % 2 ^ 64) x / 2 ^ k) m)
 turned k m = after (keep m) (after (down k) (after (cut 64) (up 32) ⊕ as-it-is))
 
