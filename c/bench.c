@@ -344,7 +344,7 @@ static double median(double *of)
 	return of[RUNS / 2];
 }
 
-/* One row: by the call, or by the byte where there are so many. */
+/* One row: by the call, or by the byte where a call takes `by` bytes. */
 static void compare(const char *what, void (*ours)(void), const char *peer_name, void (*peer)(void), size_t by)
 {
 	double our_times[RUNS], peer_times[RUNS], ratios[RUNS];

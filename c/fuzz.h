@@ -232,7 +232,7 @@ static size_t fill_of(const char *characters, uint8_t *bytes, size_t length)
 	return length;
 }
 
-/* A name, mostly a good one of at most so many bytes. */
+/* A name, mostly a good one of at most `limit` bytes. */
 static size_t fill_name(uint8_t *bytes, size_t limit)
 {
 	size_t length = fill_of("ABCXYZ019$#@_az", bytes, one_in(20) ? below(limit + 4) : 1 + below(limit));

@@ -122,7 +122,7 @@ one-buffer tell wrote none bytes refuses writes =
     last (length bytes)
     (short (told tell) (λ out. ltb (length out) (length bytes)) (λ out h. le-ltb (length out) (length bytes) h) (λ _. refuses) (done (λ _. writes)))
 
--- so many bytes and so many elements
+-- room for `n` bytes and `m` elements
 both : {A E : Type 0} (tell : A → Refusal) (n m : ℕ) {x y z : List ℕ × List E → A}
     → ((l : List ℕ × List E) → tell (x l) ≡ refusedBy 4)
     → ((l : List ℕ × List E) → tell (y l) ≡ refusedBy 4) → ((l : List ℕ × List E) → tell (z l) ≡ noRefusal)

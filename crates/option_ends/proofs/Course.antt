@@ -21,7 +21,7 @@ use Rattle.octets.specs.Choice.{if_then_else_}
 abbrev outcome : Bool → Side
 outcome b = if b then On else Off
 
--- Receipts alone, once the other end has answered: so many of a command are left, and it accepts no more.
+-- Receipts alone, once the other end has answered: at most `left` of them are taken, and it accepts no more.
 record Course (t : Ends) (asker : End) (left : ℕ) (b : Bool) (later : List Call) : Type 0 where
   never : countWhere receipt table t later ≤ left
   exact : Quiet (after table t later) → countWhere receipt table t later ≡ left

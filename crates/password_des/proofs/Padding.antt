@@ -24,7 +24,7 @@ ebcdic-drop zero t = refl
 ebcdic-drop (suc k) [] = refl
 ebcdic-drop (suc k) (b ∷ bs) = ebcdic-drop k bs
 
--- so many bytes of a text padded to more are the text padded to so many
+-- the first `k` bytes of a text padded to `n` are the text padded to `k`
 pub take-filled : (pad k n : ℕ) (l : List ℕ) → length l ≤ k → k ≤ n → take k (filled pad n l) ≡ filled pad k l
 unfolding filled
 take-filled pad k n l h g =

@@ -16,7 +16,7 @@ use Rattle.refusal.specs.Written.{writtenInto}
 pub not-wrote : {A : Type 0} {k n : ℕ} → Refused k ≡ Wrote n → A
 not-wrote e = let z : _≡_ {A = ℕ} 0 1 = cc in absurd (omega arith)
 
--- the bytes are at the front, and are so many
+-- the bytes are at the front, and `n` is how many they are
 pub wrote-front : (bytes out : List ℕ) (n : ℕ) → writtenInto bytes out .answer ≡ Wrote n
     → (n ≡ length bytes) × (take n (writtenInto bytes out .lent) ≡ bytes)
 wrote-front bytes out n =

@@ -57,16 +57,11 @@ fn run_line(line: &[u8]) {
     }
 }
 
-// Every line of a text.
 fn run(text: &[u8]) {
     let mut at = 0;
     while at < text.len() {
-        let end = octets_find::find_byte(text, at, b'\n');
-        if text.len() <= end {
-            return;
-        }
-        run_line(&text[at..end]);
-        at = end + 1;
+        run_line(show_case::line_at(text, at));
+        at = show_case::after_line(text, at);
     }
 }
 

@@ -90,42 +90,25 @@ fn say_replayed(option: u8, calls: &[u8]) {
 }
 
 // An option, and the calls.
-fn run_digits(digits: &[u8]) {
-    let mut bytes = [0u8; 64];
-    let n = show::read_hex(digits, &mut bytes);
-    if n == 0 {
-        return;
-    }
-    if n <= 64 {
-        say_replayed(bytes[0], &bytes[1..n]);
-    }
+fn run_case(case: &[u8]) {
+    say_replayed(
+        octets_part::byte_at(case, 0),
+        octets_part::part(case, 1, case.len()),
+    );
 }
 
-// A line: the name goes up to the colon, and after a blank the bytes.
 fn run_line(line: &[u8]) {
-    let n = line.len();
-    let colon = octets_find::find_byte(line, 0, b':');
-    if n < 2 {
-        return;
-    }
-    if n - 2 < colon {
-        return;
-    }
-    say(&line[0..colon + 1]);
-    run_digits(&line[colon + 2..n]);
+    let mut case = [0u8; 64];
+    let n = show_case::begin_case(line, &mut case);
+    run_case(octets_part::part(&case, 0, n));
     say(b"\n");
 }
 
-// Every line of a text.
 fn run(text: &[u8]) {
     let mut at = 0;
     while at < text.len() {
-        let end = octets_find::find_byte(text, at, b'\n');
-        if text.len() <= end {
-            return;
-        }
-        run_line(&text[at..end]);
-        at = end + 1;
+        run_line(show_case::line_at(text, at));
+        at = show_case::after_line(text, at);
     }
 }
 

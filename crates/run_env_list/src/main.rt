@@ -17,23 +17,15 @@ fn say(text: &[u8]) {
     io::write_all(1, text);
 }
 
-// A number with a blank before it.
-fn say_number(n: usize) {
-    say(b" ");
-    io::print_decimal(1, n as u64);
-}
-
 fn say_answer(answer: Answer) {
     match answer {
         Answer::Read(first, count, used) => {
             say(b" read");
-            say_number(first as usize);
-            say_number(count);
-            say_number(used);
+            show_case::say_numbers(&[first as usize, count, used]);
         }
         Answer::Refused(n) => {
             say(b" refused");
-            say_number(n as usize);
+            show_case::say_values(&[n]);
         }
     }
 }
@@ -48,11 +40,7 @@ fn say_bytes(bytes: &[u8]) {
 }
 
 fn say_record(v: VariableRecord) {
-    say_number(v.kind);
-    say_number(v.name_at);
-    say_number(v.name_length);
-    say_number(v.value_at);
-    say_number(v.value_length);
+    show_case::say_numbers(&[v.kind, v.name_at, v.name_length, v.value_at, v.value_length]);
 }
 
 // Says the answer to a payload that is read into the first n of 66 records, and gives the records.
@@ -109,45 +97,28 @@ fn run_case(bytes: &[u8]) {
     );
 }
 
-fn run_hex(text: &[u8]) {
-    let mut bytes = [0u8; 2200];
-    let n = show::read_hex(text, &mut bytes);
-    if n <= 2200 {
-        run_case(&bytes[0..n]);
-    }
-}
-
 // A line that has no colon is said as it is.
 fn run_line(line: &[u8]) {
-    let n = line.len();
-    let colon = octets_find::find_byte(line, 0, b':');
-    if n <= colon {
+    if show_case::is_title(line) {
         say(line);
+        say(b"\n");
         return;
     }
-    if 2 <= n - colon {
-        say(part(line, 0, colon + 1));
-        run_hex(part(line, colon + 2, n));
-    }
+    let mut case = [0u8; 2200];
+    let n = show_case::begin_case(line, &mut case);
+    run_case(part(&case, 0, n));
 }
 
-// Every line of a text.
 fn run(text: &[u8]) {
     let mut at = 0;
     while at < text.len() {
-        let end = octets_find::find_byte(text, at, b'\n');
-        if text.len() <= end {
-            return;
-        }
-        let next = end + 1;
-        run_line(part(text, at, next - at));
-        at = next;
+        run_line(show_case::line_at(text, at));
+        at = show_case::after_line(text, at);
     }
 }
 
-// The buffer is zero after the input, so no line ends there.
 fn main() {
     let mut input = io::large_buffer();
-    io::read_full(0, &mut input);
-    run(&input);
+    let n = io::read_full(0, &mut input);
+    run(&input[..n]);
 }

@@ -31,14 +31,6 @@ fn say_spaced(n: usize) {
     say_number(b" ", n);
 }
 
-fn say_numbers(numbers: &[usize]) {
-    let mut i = 0;
-    while i < numbers.len() {
-        say_spaced(numbers[i]);
-        i += 1;
-    }
-}
-
 fn say_read(first: u8, count: usize, used: usize) {
     say_number(b" read ", first as usize);
     say_spaced(count);
@@ -56,7 +48,7 @@ fn read_into(payload: &[u8], bytes: &mut [u8], numbers: &mut [usize]) {
     let answer = env_reader::read(payload, bytes, numbers);
     say_answer(answer);
     say_bytes(bytes);
-    say_numbers(numbers);
+    show_case::say_numbers(numbers);
     say(b"\n");
 }
 
@@ -72,54 +64,31 @@ fn read_in(payload: &[u8], room: usize, list: usize) {
     read_into(payload, &mut bytes[0..room], &mut numbers[0..list]);
 }
 
-// The number that two bytes say.
-fn number(high: u8, low: u8) -> usize {
-    (high as usize) * 256 + (low as usize)
-}
-
 fn run_case(bytes: &[u8]) {
-    let n = bytes.len();
-    if 4 <= n {
-        read_in(
-            &bytes[4..n],
-            number(bytes[0], bytes[1]),
-            number(bytes[2], bytes[3]),
-        );
-    }
+    read_in(
+        octets_part::part(bytes, 4, bytes.len()),
+        show_numbers::number_at(bytes, 0),
+        show_numbers::number_at(bytes, 2),
+    );
 }
 
-fn run_hex(text: &[u8]) {
-    let mut bytes = [0u8; 2200];
-    let n = show::read_hex(text, &mut bytes);
-    if n <= 2200 {
-        run_case(&bytes[0..n]);
-    }
-}
-
+// A line that has no colon is said as it is.
 fn run_line(line: &[u8]) {
-    let n = line.len();
-    let colon = octets_find::find_byte(line, 0, b':');
-    if n <= colon {
+    if show_case::is_title(line) {
         say(line);
         say(b"\n");
         return;
     }
-    say(&line[0..colon + 1]);
-    if 2 <= n - colon {
-        run_hex(&line[colon + 2..n]);
-    }
+    let mut case = [0u8; 2200];
+    let n = show_case::begin_case(line, &mut case);
+    run_case(octets_part::part(&case, 0, n));
 }
 
-// Every line of a text.
 fn run(text: &[u8]) {
     let mut at = 0;
     while at < text.len() {
-        let end = octets_find::find_byte(text, at, b'\n');
-        if text.len() <= end {
-            return;
-        }
-        run_line(&text[at..end]);
-        at = end + 1;
+        run_line(show_case::line_at(text, at));
+        at = show_case::after_line(text, at);
     }
 }
 

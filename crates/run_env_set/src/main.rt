@@ -8,18 +8,8 @@ use env::VariableRecord;
 use env_list::get;
 use env_list::set;
 
-// A number with a blank before it.
-fn say_number(n: usize) {
-    io::write_all(1, b" ");
-    io::print_decimal(1, n as u64);
-}
-
 fn say_record(v: VariableRecord) {
-    say_number(v.kind);
-    say_number(v.name_at);
-    say_number(v.name_length);
-    say_number(v.value_at);
-    say_number(v.value_length);
+    show_case::say_numbers(&[v.kind, v.name_at, v.name_length, v.value_at, v.value_length]);
 }
 
 fn say_set(answer: bool) {
@@ -57,32 +47,22 @@ fn run_case(i: u8, k: u8) {
 }
 
 fn run_line(line: &[u8]) {
-    let colon = octets_find::find_byte(line, 0, b':');
-    if line.len() <= colon {
-        return;
-    }
-    io::write_all(1, &line[0..colon + 1]);
-    let mut places = [0u8; 2];
-    show::read_hex(&line[colon + 1..], &mut places);
-    run_case(places[0], places[1]);
+    let mut case = [0u8; 2];
+    show_case::begin_case(line, &mut case);
+    run_case(case[0], case[1]);
     io::write_all(1, b"\n");
 }
 
 fn run(text: &[u8]) {
     let mut at = 0;
     while at < text.len() {
-        let end = octets_find::find_byte(text, at, b'\n');
-        if text.len() <= end {
-            return;
-        }
-        run_line(&text[at..end]);
-        at = end + 1;
+        run_line(show_case::line_at(text, at));
+        at = show_case::after_line(text, at);
     }
 }
 
-// The buffer is zero after the input, so no line ends there.
 fn main() {
     let mut input = [0u8; 1024];
-    io::read_full(0, &mut input);
-    run(&input);
+    let n = io::read_full(0, &mut input);
+    run(&input[..n]);
 }

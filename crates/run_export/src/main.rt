@@ -2,32 +2,12 @@
 // line: a title, a colon, and in hexadecimal digits a byte that says which call, and its arguments. A line of output
 // has the title and the numbers of the answer in the order of its struct, and what was written. `stdin` and `stdout`
 // were made by a Python script from the constants of include/tongvelvet.h and the specification's table of the option
-// rules: every number of every enum, both ways, and numbers that name nothing. Those of frames and the ledger are in
-// `run_export_print`, those of the verdicts in `run_export_signon`.
+// rules: every number of every enum, both ways, numbers that name nothing, and what is written into eight bytes. Those
+// of frames and the ledger are in `run_export_print`, those of the verdicts in `run_export_signon`.
 use export_option::TvPair;
 use export_option::TvSides;
-
-fn say(text: &[u8]) {
-    io::write_all(1, text);
-}
-
-fn say_number(n: u64) {
-    say(b" ");
-    io::print_decimal(1, n);
-}
-
-// A byte as a number.
-fn say_byte(n: u8) {
-    say_number(n as u64);
-}
-
-fn say_numbers(numbers: &[u8]) {
-    let mut i = 0;
-    while i < numbers.len() {
-        say_byte(numbers[i]);
-        i += 1;
-    }
-}
+use show_case::say_numbers;
+use show_case::say_values;
 
 // Every side in one state.
 fn all_in(state: u8) -> TvSides {
@@ -45,7 +25,7 @@ fn all_in(state: u8) -> TvSides {
 }
 
 fn say_sides(sides: TvSides) {
-    say_numbers(
+    say_values(
         &[
             sides.binary.ours,
             sides.binary.other,
@@ -64,26 +44,25 @@ fn say_sides(sides: TvSides) {
 fn request(state: u8, ours: u8, option: u8, on: u8) {
     let a = export_option::tv_sides_request(all_in(state), ours == 1, option, on == 1);
     say_sides(a.sides);
-    say_numbers(&[a.number, a.writes, a.code, a.option]);
+    say_values(&[a.number, a.writes, a.code, a.option]);
 }
 
 fn receive(state: u8, code: u8, option: u8, accept: u8) {
     let a = export_option::tv_sides_receive(all_in(state), code, option, accept == 1);
     say_sides(a.sides);
-    say_numbers(&[a.number, a.writes, a.code, a.option]);
+    say_values(&[a.number, a.writes, a.code, a.option]);
 }
 
 fn look(bytes: &[u8]) {
     let e = export_telnet::tv_look(bytes, 0);
-    say_numbers(&[e.what, e.refusal, e.code, e.option]);
+    say_values(&[e.what, e.refusal, e.code, e.option]);
 }
 
 fn write(what: u8, code: u8, option: u8, payload: &[u8]) {
     let mut out = [0u8; 8];
     let w = export_telnet::tv_write(what, code, option, payload, &mut out);
-    say_numbers(&[w.refusal]);
-    say_number(w.length as u64);
-    say_numbers(octets_part::part(&out, 0, w.length));
+    say_numbers(&[w.refusal as usize, w.length]);
+    say_values(octets_part::part(&out, 0, w.length));
 }
 
 // What a byte of the case says.
@@ -108,26 +87,17 @@ fn run_case(case: &[u8]) {
 }
 
 fn run_line(line: &[u8]) {
-    let colon = octets_find::find_byte(line, 0, b':');
-    if line.len() <= colon {
-        return;
-    }
-    say(&line[0..colon + 1]);
-    let mut case = [0u8; 256];
-    let n = show::read_hex(&line[colon + 1..], &mut case);
+    let mut case = [0u8; 1100];
+    let n = show_case::begin_case(line, &mut case);
     run_case(octets_part::part(&case, 0, n));
-    say(b"\n");
+    io::write_all(1, b"\n");
 }
 
 fn run(text: &[u8]) {
     let mut at = 0;
     while at < text.len() {
-        let end = octets_find::find_byte(text, at, b'\n');
-        if text.len() <= end {
-            return;
-        }
-        run_line(&text[at..end]);
-        at = end + 1;
+        run_line(show_case::line_at(text, at));
+        at = show_case::after_line(text, at);
     }
 }
 

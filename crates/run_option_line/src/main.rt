@@ -1,8 +1,8 @@
 // Runs requests, receipts and what is heard with their commands on a line, on the cases of standard input, one a line:
-// a title, a colon, in hexadecimal digits calls of six bytes each, a blank, and the bytes of the other end's line. A
-// case begins with fresh sides and a line of eight bytes EE. A call is a request for our own side (00 off, 01 on) or
-// for the other's (02 off, 03 on), a receipt (FB to FE), or 10 for what is heard; an option; whether on is accepted
-// (01); the place that is heard from; the place on the own line; and how long that line is.
+// a title, a colon, and in hexadecimal digits how many calls there are, the calls, of six bytes each, and the other
+// end's line. A case begins with fresh sides and a line of eight bytes EE. A call is a request for our own side (00
+// off, 01 on) or for the other's (02 off, 03 on), a receipt (FB to FE), or 10 for what is heard; an option; whether on
+// is accepted (01); the place that is heard from; the place on the own line; and how long that line is.
 //
 // A line of output for each call has the number, the place after it, the states of our side and the other's of that
 // option, numbered as the rows of the specification's table from 0 on, and the own line. `stdout` was made by a Python
@@ -18,12 +18,7 @@ fn say(text: &[u8]) {
     io::write_all(1, text);
 }
 
-fn say_number(n: u64) {
-    say(b" ");
-    io::print_decimal(1, n);
-}
-
-fn state_of(side: Side) -> u64 {
+fn state_of(side: Side) -> usize {
     match side {
         Side::Off => 0,
         Side::On => 1,
@@ -79,11 +74,15 @@ fn say_line(line: &[u8]) {
 }
 
 fn say_sent(sent: Sent, option: u8) {
-    say_number(sent.number as u64);
-    say_number(sent.place as u64);
     let sides = sent.sides;
-    say_number(state_of(sides.side(Whose::Ours, option)));
-    say_number(state_of(sides.side(Whose::Other, option)));
+    show_case::say_numbers(
+        &[
+            sent.number as usize,
+            sent.place,
+            state_of(sides.side(Whose::Ours, option)),
+            state_of(sides.side(Whose::Other, option)),
+        ],
+    );
 }
 
 fn step(sides: Sides, call: &[u8], heard: &[u8], line: &mut [u8]) -> Sides {
@@ -113,45 +112,27 @@ fn run_calls(calls: &[u8], heard: &[u8]) {
     }
 }
 
-// The digits of the calls come before a blank, those of the other end's line after it.
-fn run_digits(digits: &[u8]) {
-    let mut calls = [0u8; 96];
-    let mut heard = [0u8; 32];
-    let blank = octets_find::find_byte(digits, 0, b' ');
-    if digits.len() <= blank {
-        return;
-    }
-    let n = show::read_hex(octets_part::part(digits, 0, blank), &mut calls);
-    let m = show::read_hex(
-        octets_part::part(digits, blank + 1, digits.len()),
-        &mut heard,
-    );
+// How many calls there are, the calls, and the other end's line.
+fn run_case(case: &[u8]) {
+    let n = 6 * octets_part::byte_at(case, 0) as usize;
     run_calls(
-        octets_part::part(&calls, 0, n),
-        octets_part::part(&heard, 0, m),
+        octets_part::part(case, 1, n),
+        octets_part::part(case, 1 + n, case.len()),
     );
 }
 
 fn run_line(line: &[u8]) {
-    let colon = octets_find::find_byte(line, 0, b':');
-    if line.len() <= colon {
-        return;
-    }
-    say(&line[0..colon + 1]);
+    let mut case = [0u8; 128];
+    let n = show_case::begin_case(line, &mut case);
     say(b"\n");
-    run_digits(octets_part::part(line, colon + 2, line.len()));
+    run_case(octets_part::part(&case, 0, n));
 }
 
-// Every line of a text.
 fn run(text: &[u8]) {
     let mut at = 0;
     while at < text.len() {
-        let end = octets_find::find_byte(text, at, b'\n');
-        if text.len() <= end {
-            return;
-        }
-        run_line(&text[at..end]);
-        at = end + 1;
+        run_line(show_case::line_at(text, at));
+        at = show_case::after_line(text, at);
     }
 }
 

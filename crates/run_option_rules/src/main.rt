@@ -110,39 +110,18 @@ fn run_case(bytes: &[u8]) {
     say_carried(bytes);
 }
 
-fn run_digits(digits: &[u8]) {
-    let mut bytes = [0u8; 256];
-    let n = show::read_hex(digits, &mut bytes);
-    if n <= 256 {
-        run_case(&bytes[0..n]);
-    }
-}
-
-// A line: the name goes up to the colon, and after a blank the bytes.
 fn run_line(line: &[u8]) {
-    let n = line.len();
-    let colon = octets_find::find_byte(line, 0, b':');
-    if n < 2 {
-        return;
-    }
-    if n - 2 < colon {
-        return;
-    }
-    say(&line[0..colon + 1]);
-    run_digits(&line[colon + 2..n]);
+    let mut case = [0u8; 256];
+    let n = show_case::begin_case(line, &mut case);
+    run_case(octets_part::part(&case, 0, n));
     say(b"\n");
 }
 
-// Every line of a text.
 fn run(text: &[u8]) {
     let mut at = 0;
     while at < text.len() {
-        let end = octets_find::find_byte(text, at, b'\n');
-        if text.len() <= end {
-            return;
-        }
-        run_line(&text[at..end]);
-        at = end + 1;
+        run_line(show_case::line_at(text, at));
+        at = show_case::after_line(text, at);
     }
 }
 

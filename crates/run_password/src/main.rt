@@ -90,26 +90,17 @@ fn run_case(letter: u8, name_length: u8, password_length: u8, case: &[u8]) {
 }
 
 fn run_line(line: &[u8]) {
-    let colon = octets_find::find_byte(line, 0, b':');
-    if line.len() <= colon {
-        return;
-    }
-    io::write_all(1, &line[0..colon + 1]);
     let mut case = [b'a'; 256];
-    show::read_hex(&line[colon + 1..], &mut case);
-    run_case(line[0], case[16], case[17], &case);
+    show_case::begin_case(line, &mut case);
+    run_case(octets_part::byte_at(line, 0), case[16], case[17], &case);
     io::write_all(1, b"\n");
 }
 
 fn run(text: &[u8]) {
     let mut at = 0;
     while at < text.len() {
-        let end = octets_find::find_byte(text, at, b'\n');
-        if text.len() <= end {
-            return;
-        }
-        run_line(&text[at..end]);
-        at = end + 1;
+        run_line(show_case::line_at(text, at));
+        at = show_case::after_line(text, at);
     }
 }
 

@@ -50,25 +50,24 @@ fn run_case(letter: u8, token: u8, name: u8, server: u8, client: u8, offered: u8
 }
 
 fn run_line(line: &[u8]) {
-    let colon = octets_find::find_byte(line, 0, b':');
-    if line.len() <= colon {
-        return;
-    }
-    io::write_all(1, &line[0..colon + 1]);
     let mut case = [0u8; 256];
-    show::read_hex(&line[colon + 1..], &mut case);
-    run_case(line[0], case[0], case[1], case[2], case[3], case[4], &case);
+    show_case::begin_case(line, &mut case);
+    run_case(
+        octets_part::byte_at(line, 0),
+        case[0],
+        case[1],
+        case[2],
+        case[3],
+        case[4],
+        &case,
+    );
 }
 
 fn run(text: &[u8]) {
     let mut at = 0;
     while at < text.len() {
-        let end = octets_find::find_byte(text, at, b'\n');
-        if text.len() <= end {
-            return;
-        }
-        run_line(&text[at..end]);
-        at = end + 1;
+        run_line(show_case::line_at(text, at));
+        at = show_case::after_line(text, at);
     }
 }
 

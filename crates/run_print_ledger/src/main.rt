@@ -65,27 +65,14 @@ fn run_case(ledger: Ledger, letter: u8, bytes: &mut [u8]) -> Ledger {
     complete(ledger, bytes)
 }
 
-fn run_digits(ledger: Ledger, letter: u8, digits: &[u8]) -> Ledger {
-    let mut bytes = [0u8; 1024];
-    let n = show::read_hex(digits, &mut bytes);
+fn run_line(ledger: Ledger, line: &[u8]) -> Ledger {
+    let mut case = [0u8; 1024];
+    let n = show_case::begin_case(octets_part::part(line, 2, line.len()), &mut case);
     if 1024 < n {
         return ledger;
     }
-    run_case(ledger, letter, &mut bytes[0..n])
-}
-
-// A line: the name goes from the third byte to the colon, and after a blank the bytes.
-fn run_line(ledger: Ledger, line: &[u8]) -> Ledger {
-    let n = line.len();
-    let colon = octets_find::find_byte(line, 2, b':');
-    if n < 4 {
-        return ledger;
-    }
-    if n - 2 < colon {
-        return ledger;
-    }
-    say(&line[2..colon + 2]);
-    let after = run_digits(ledger, line[0], &line[colon + 2..n]);
+    say(b" ");
+    let after = run_case(ledger, octets_part::byte_at(line, 0), &mut case[0..n]);
     say(b"\n");
     after
 }
@@ -95,12 +82,8 @@ fn run(text: &[u8]) {
     let mut ledger = Ledger::fresh();
     let mut at = 0;
     while at < text.len() {
-        let end = octets_find::find_byte(text, at, b'\n');
-        if text.len() <= end {
-            return;
-        }
-        ledger = run_line(ledger, &text[at..end]);
-        at = end + 1;
+        ledger = run_line(ledger, show_case::line_at(text, at));
+        at = show_case::after_line(text, at);
     }
 }
 

@@ -22,8 +22,8 @@ fn say_bytes(bytes: &[u8]) {
 
 fn make(name: &[u8], password: &[u8], enabled: bool, des_allowed: bool, out: &mut [u8]) {
     match profile_maker::make_record(name, password, enabled, des_allowed, out) {
-        Written::Wrote(n) => say_number(b": wrote ", n),
-        Written::Refused(n) => say_number(b": refused ", n as usize),
+        Written::Wrote(n) => say_number(b" wrote ", n),
+        Written::Refused(n) => say_number(b" refused ", n as usize),
     }
     say_bytes(out);
 }
@@ -48,13 +48,8 @@ fn run_case(room: u8, name_length: u8, password_length: u8, case: &[u8]) {
 }
 
 fn run_line(line: &[u8]) {
-    let colon = octets_find::find_byte(line, 0, b':');
-    if line.len() <= colon {
-        return;
-    }
-    io::write_all(1, &line[0..colon]);
     let mut case = [0u8; 256];
-    show::read_hex(&line[colon + 1..], &mut case);
+    show_case::begin_case(line, &mut case);
     run_case(case[2], case[3], case[4], &case);
     io::write_all(1, b"\n");
 }
@@ -62,12 +57,8 @@ fn run_line(line: &[u8]) {
 fn run(text: &[u8]) {
     let mut at = 0;
     while at < text.len() {
-        let end = octets_find::find_byte(text, at, b'\n');
-        if text.len() <= end {
-            return;
-        }
-        run_line(&text[at..end]);
-        at = end + 1;
+        run_line(show_case::line_at(text, at));
+        at = show_case::after_line(text, at);
     }
 }
 

@@ -33,8 +33,8 @@ fn say_entry(table: &[u8], entry: Entry) {
 
 fn run_table(table: &[u8], name: &[u8]) {
     match profile_table::check(table) {
-        TableCheck::Profiles(n) => say_number(b": profiles ", n),
-        TableCheck::Refused(n) => say_number(b": refused ", n as usize),
+        TableCheck::Profiles(n) => say_number(b" profiles ", n),
+        TableCheck::Refused(n) => say_number(b" refused ", n as usize),
     }
     match profile_table::find(table, name) {
         Found::Present(entry) => say_entry(table, entry),
@@ -85,28 +85,17 @@ fn run_case(first: u8, name_length: u8, case: &[u8]) {
 }
 
 fn run_line(line: &[u8]) {
-    let colon = octets_find::find_byte(line, 0, b':');
-    if line.len() <= colon {
-        return;
-    }
-    io::write_all(1, &line[0..colon]);
     let mut case = [0u8; 512];
-    let n = show::read_hex(&line[colon + 1..], &mut case);
-    if n <= 512 {
-        run_case(case[0], case[1], &case[0..n]);
-    }
+    let n = show_case::begin_case(line, &mut case);
+    run_case(case[0], case[1], octets_part::part(&case, 0, n));
     io::write_all(1, b"\n");
 }
 
 fn run(text: &[u8]) {
     let mut at = 0;
     while at < text.len() {
-        let end = octets_find::find_byte(text, at, b'\n');
-        if text.len() <= end {
-            return;
-        }
-        run_line(&text[at..end]);
-        at = end + 1;
+        run_line(show_case::line_at(text, at));
+        at = show_case::after_line(text, at);
     }
 }
 

@@ -3,7 +3,7 @@
 // and messages of lengths about the padding's edges, whose byte i is the length plus 7 * i, modulo 256.
 //
 //     m name: bytes               a message
-//     s name: first step count    the message of so many bytes (three bytes say it), each greater by the step than the one before, modulo 256
+//     s name: first step count    the message of `count` bytes (a number of three bytes), each greater by the step than the one before, modulo 256
 //
 // A line of output is a digest.
 fn say(message: &[u8]) {
@@ -58,37 +58,20 @@ fn run_case(letter: u8, bytes: &[u8]) {
     run_series(bytes);
 }
 
-fn run_digits(letter: u8, digits: &[u8]) {
-    let mut bytes = [0u8; 64];
-    let n = show::read_hex(digits, &mut bytes);
-    if n <= 64 {
-        run_case(letter, &bytes[0..n]);
-    }
-}
-
-// A line: after the name's colon come a blank and the bytes.
 fn run_line(line: &[u8]) {
-    let n = line.len();
-    let colon = octets_find::find_byte(line, 0, b':');
-    if n < 2 {
-        return;
-    }
-    if n - 2 < colon {
-        return;
-    }
-    run_digits(line[0], &line[colon + 2..n]);
+    let mut case = [0u8; 64];
+    let n = show::read_hex(show_case::digits(line), &mut case);
+    run_case(
+        octets_part::byte_at(line, 0),
+        octets_part::part(&case, 0, n),
+    );
 }
 
-// Every line of a text.
 fn run(text: &[u8]) {
     let mut at = 0;
     while at < text.len() {
-        let end = octets_find::find_byte(text, at, b'\n');
-        if text.len() <= end {
-            return;
-        }
-        run_line(&text[at..end]);
-        at = end + 1;
+        run_line(show_case::line_at(text, at));
+        at = show_case::after_line(text, at);
     }
 }
 

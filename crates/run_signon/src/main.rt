@@ -1,6 +1,6 @@
-// Runs sign-ons from standard input, one a line: a title, a colon, and in hexadecimal digits the length of the server
-// seed (one byte), the length of the profile table (two bytes), the seed, the table and the payload. A line of output
-// has the title and the verdict, or the refusal.
+// Runs sign-ons from standard input, one a line: a title, a colon, and in hexadecimal digits the server seed after its
+// length (one byte), the profile table after its length (two bytes) and the payload. A line of output has the title and
+// the verdict, or the refusal.
 //
 // The cases are the sign-ons of RFC 4777 (sections 5, 5.1 and 5.2), these with one thing changed, each rule of a
 // verdict from both sides, each refusal, and two refusals at once. The tokens and substitutes in `stdin` are the RFC's
@@ -35,49 +35,38 @@ fn say_answer(answer: Answer) {
     }
 }
 
-// A sign-on whose parts come one after the other from the fourth byte on.
-fn sign_on(seed_length: u8, table_high: u8, table_low: u8, case: &[u8]) {
-    let table = 3 + seed_length as usize;
-    let payload = table + 256 * table_high as usize + table_low as usize;
-    if case.len() < payload {
-        return;
-    }
-    say_answer(signon_verdict::verdict(&case[3..table], &case[table..payload], &case[payload..]));
+// The table comes after its length, and the payload after the table.
+fn sign_on(seed: &[u8], rest: &[u8]) {
+    let table = show_input::announced(rest, 0);
+    let payload = show_input::left_after(rest, 0);
+    say_answer(signon_verdict::verdict(seed, table, payload));
 }
 
-fn run_hex(text: &[u8]) {
-    let mut case = [0u8; 1400];
-    let n = show::read_hex(text, &mut case);
-    if n <= 1400 {
-        sign_on(case[0], case[1], case[2], &case[0..n]);
-    }
+fn run_case(case: &[u8]) {
+    let n = octets_part::byte_at(case, 0) as usize;
+    sign_on(
+        octets_part::part(case, 1, n),
+        octets_part::part(case, 1 + n, case.len()),
+    );
 }
 
 fn run_line(line: &[u8]) {
-    let colon = octets_find::find_byte(line, 0, b':');
-    if line.len() <= colon {
-        return;
-    }
-    say(&line[0..colon + 1]);
-    run_hex(&line[colon + 1..]);
+    let mut case = [0u8; 1400];
+    let n = show_case::begin_case(line, &mut case);
+    run_case(octets_part::part(&case, 0, n));
     say(b"\n");
 }
 
 fn run(text: &[u8]) {
     let mut at = 0;
     while at < text.len() {
-        let end = octets_find::find_byte(text, at, b'\n');
-        if text.len() <= end {
-            return;
-        }
-        run_line(&text[at..end]);
-        at = end + 1;
+        run_line(show_case::line_at(text, at));
+        at = show_case::after_line(text, at);
     }
 }
 
-// The buffer is zero after the input, so no line ends there.
 fn main() {
     let mut input = [0u8; 65536];
-    io::read_full(0, &mut input);
-    run(&input);
+    let n = io::read_full(0, &mut input);
+    run(&input[..n]);
 }

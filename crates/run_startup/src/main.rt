@@ -23,8 +23,8 @@ fn say_bytes(bytes: &[u8]) {
 
 fn respond(fault: bool, verdict: Verdict, system: &[u8], device: &[u8], out: &mut [u8]) {
     match startup_record::response(fault, verdict, system, device, out) {
-        Written::Wrote(n) => say_number(b": wrote ", n),
-        Written::Refused(n) => say_number(b": refused ", n as usize),
+        Written::Wrote(n) => say_number(b" wrote ", n),
+        Written::Refused(n) => say_number(b" refused ", n as usize),
     }
     say_bytes(out);
 }
@@ -59,13 +59,8 @@ fn run_case(room: u8, system_length: u8, case: &[u8]) {
 }
 
 fn run_line(line: &[u8]) {
-    let colon = octets_find::find_byte(line, 0, b':');
-    if line.len() <= colon {
-        return;
-    }
-    io::write_all(1, &line[0..colon]);
     let mut case = [0u8; 64];
-    let n = show::read_hex(&line[colon + 1..], &mut case);
+    let n = show_case::begin_case(line, &mut case);
     run_case(case[2], case[3], octets_part::part(&case, 0, n));
     io::write_all(1, b"\n");
 }
@@ -73,12 +68,8 @@ fn run_line(line: &[u8]) {
 fn run(text: &[u8]) {
     let mut at = 0;
     while at < text.len() {
-        let end = octets_find::find_byte(text, at, b'\n');
-        if text.len() <= end {
-            return;
-        }
-        run_line(&text[at..end]);
-        at = end + 1;
+        run_line(show_case::line_at(text, at));
+        at = show_case::after_line(text, at);
     }
 }
 

@@ -1,7 +1,8 @@
--- Lines of a text, and the digits after the colon of a line.
+-- Lines of a text, and of a line what comes before and after its colon.
 use Prim.Native.Nat.{ℕ, _+_}
 use mathlib.Core.List.{List}
-use lib.Dec.{ltb}
+use mathlib.Core.Bool.{Bool}
+use lib.Dec.{ltb, eqb}
 use lib.ListN.{length, drop}
 use Rattle.octets.specs.Choice.{if_then_else_}
 use Rattle.octets.specs.Find.{upTo}
@@ -14,6 +15,14 @@ lineAt text at = upTo 10 (drop at text)
 unfoldable pub afterLine : List ℕ → ℕ → ℕ
 afterLine text at = if ltb (at + length (lineAt text at)) (length text) then at + length (lineAt text at) + 1 else at + length (lineAt text at)
 
--- what comes after the first colon of a line; nothing where there is none
+-- what comes before the first colon of a line; all of it where there is none
+unfoldable pub titleIn : List ℕ → List ℕ
+titleIn line = upTo 58 line
+
+-- what comes after that colon
 unfoldable pub digitsIn : List ℕ → List ℕ
-digitsIn line = drop 1 (drop (length (upTo 58 line)) line)
+digitsIn line = drop 1 (drop (length (titleIn line)) line)
+
+-- a line without a colon
+unfoldable pub isTitle : List ℕ → Bool
+isTitle line = eqb (length (titleIn line)) (length line)

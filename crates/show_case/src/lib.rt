@@ -5,7 +5,7 @@ ghost use Prim.Native.Nat.{_-_, _≤_};
 ghost use lib.ListN.{length};
 ghost use Rattle.octets.specs.Lent.{outcome};
 ghost use Rattle.show.specs.Promise.{hexInto};
-ghost use Rattle.show_case.specs.Case.{lineAt, afterLine, digitsIn};
+ghost use Rattle.show_case.specs.Case.{lineAt, afterLine, titleIn, digitsIn, isTitle};
 
 // The line at a place of a text, without its end.
 pub fn line_at(text: &[u8], at: usize) -> &[u8]
@@ -33,20 +33,26 @@ fn say(words: &[u8]) {
     io::write_all(1, words);
 }
 
-// What comes before the colon, and it.
-fn say_title(line: &[u8]) {
+// What comes before the colon of a line.
+pub fn title(line: &[u8]) -> &[u8]
+    ensures { λ r. ⌜ now r ≡ titleIn (now (line .entry)) ⌝ }
+{
     let colon = octets_find::find_byte(line, 0, b':');
-    say(octets_part::part(line, 0, colon));
-    say(b":");
+    octets_part::part(line, 0, colon)
 }
 
-// What comes after the colon.
-fn digits(line: &[u8]) -> &[u8]
+// What comes after it.
+pub fn digits(line: &[u8]) -> &[u8]
     ensures { λ r. ⌜ now r ≡ digitsIn (now (line .entry)) ⌝ }
 {
     let colon = octets_find::find_byte(line, 0, b':');
     let rest = octets_part::part(line, colon, line.len());
     octets_part::part(rest, 1, rest.len())
+}
+
+fn say_title(line: &[u8]) {
+    say(title(line));
+    say(b":");
 }
 
 // Says the title of a line, with its colon, and puts the bytes of its digits to the front of a buffer; the answer is
@@ -56,6 +62,13 @@ pub fn begin_case(line: &[u8], case: &mut [u8]) -> usize
 {
     say_title(line);
     show::read_hex(digits(line), case)
+}
+
+// Whether a line has no colon: it is a title alone.
+pub fn is_title(line: &[u8]) -> bool
+    ensures { λ r. ⌜ r ≡ isTitle (now (line .entry)) ⌝ }
+{
+    octets_find::find_byte(line, 0, b':') == line.len()
 }
 
 fn say_number(n: usize) {
@@ -73,6 +86,22 @@ pub fn say_numbers(numbers: &[usize]) -> usize
         i += 1;
     }
     i
+}
+
+fn say_value(b: u8) {
+    say_number(b as usize);
+}
+
+// Says bytes as numbers, each after a blank; the answer is how many.
+pub fn say_values(bytes: &[u8]) -> usize
+    ensures { λ r. ⌜ r ≡ length (now (bytes .entry)) ⌝ }
+{
+    let mut n = 0;
+    while n < bytes.len() {
+        say_value(bytes[n]);
+        n += 1;
+    }
+    n
 }
 
 fn say_byte(b: u8) {

@@ -149,7 +149,7 @@ module _ (s : List ℕ) (i : ℕ) where
   unfolding isDoubled
   doubled-pair h = rw (pair-front s i h)
 
--- so many bytes of the stretch at a place are passed, up to a place after them
+-- `n` bytes of the stretch at a place are passed, up to the place `i` after them
 pub record Passed (s : List ℕ) (at i n : ℕ) : Type 0 where
   pub passed : List ℕ
   pub piece : Piece s at passed i

@@ -61,7 +61,7 @@ fixed y = y .before .before .before .before .before .record-length .ensures
 told : (y : Call) (t : Step) → y .next-record .result ≡ t → Stepped (shapeIn (tableAt y)) (counted y) (last y) (drop (place y) (tableAt y)) t
 told y t e = stepped (shapeIn (tableAt y)) (tableAt y) (last y) (place y) (counted y) _ t (omega arith) (y .next-record .ensures) e
 
--- the place where a record is known, with a name of so many bytes
+-- the place where a record is known, with the length of its name
 abbrev Known : Type 0
 Known = tie.After-known-told2 Inv-loop μ-loop
 

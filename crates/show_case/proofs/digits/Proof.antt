@@ -5,7 +5,7 @@ use lib.ListN.{length, drop}
 use borrow.Author.Needs.{needs}
 use Rattle.octets.specs.Find.{upTo}
 use Rattle.octets.specs.Part.{part}
-use Rattle.show_case.specs.Case.{digitsIn}
+use Rattle.show_case.specs.Case.{titleIn, digitsIn}
 use Rattle.show_case.proofs.Lines.{part-from}
 use Rattle.show_case.proofs.digits.Statement.{statement}
 use Rattle.show_case.proofs.digits.Tie as tie
@@ -20,7 +20,7 @@ part-requires-2 : tie.Need-part-requires-2
 part-requires-2 c κs = search needs
 
 returns : tie.Need-returns
-unfolding digitsIn
+unfolding titleIn digitsIn
 returns c =
     let line = c .before .before .before .before .args .line .now in
     let colon : c .before .before .find-byte .result ≡ length (upTo 58 line) = omega (arith, c .before .before .find-byte .ensures) in
