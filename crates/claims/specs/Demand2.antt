@@ -18,6 +18,7 @@ use Rattle.profile_table.specs.Theorems.{FoundIsNamed}
 use Rattle.profile_maker.specs.Theorems.{MadeRecordsAreGood, MadeTablesRead}
 use Rattle.password_check.specs.Theorems.{OwnPasswordGives, OnlyItsLengths}
 use Rattle.signon.specs.Theorems.{VerdictIsItsSentence, NoVerdictIfRefused, OnlyEnabledGranted}
+use Rattle.signon.specs.ReasonTheorems.{ReasonIsFirst, SomeCauseHolds, WordsInOrder, VerdictOfItsReason, GrantedExactly, ConditionsSay}
 use Rattle.startup.specs.Theorems.{ResponsesAreRight, Figures}
 use Rattle.print_frame.specs.Theorems.{FrameIsItsSentence, TooLongToSay}
 use Rattle.print_ledger.specs.Theorems.{PrintCompleteReadsBack, PrintCompleteIsAFrame, PrintsAreHeardBack}
@@ -113,6 +114,21 @@ pub record Demand2 : Type 0 where
   -- "0002, if VAR USER is .. not in the table; 0003, not enabled": such a profile is never granted, whatever is
   -- offered.
   pub onlyEnabledGranted : OnlyEnabledGranted
+  -- REASONS (change request No. 1)
+  -- "The reason given is proved to be the first that holds in that order",
+  pub reasonIsFirst : ReasonIsFirst
+  -- of a list in which one always holds,
+  pub someCauseHolds : SomeCauseHolds
+  -- and whose words are the request's text, in its order;
+  pub wordsInOrder : WordsInOrder
+  -- "and each reason belongs to one verdict only": verdict and reason agree, refusals included.
+  pub verdictOfItsReason : VerdictOfItsReason
+  -- The reason is "granted" exactly where GRANT is given.
+  pub grantedExactly : GrantedExactly
+  -- "Substitute length, and DES not allowed for 8 bytes, need a seed that isn't clear, clear password malformed one
+  -- that is."
+  pub conditionsSay : ConditionsSay
+  -- MADE AND OFFERED
   -- Made, stored, offered, granted: token maker, table, substitute and verdict together.
   pub madeSignsOn : MadeSignsOn
   -- RESPONSE RECORDS

@@ -2,3 +2,5 @@ pub mod Lookups
 pub mod Rules
 pub mod Sentences
 pub mod Verdicts
+pub mod Conditions
+pub mod Reasons

@@ -1,4 +1,5 @@
--- The conditions for GRANT are the sentences of demand 2, for a profile that is well-formed and a user that is a name.
+-- The conditions for GRANT are the sentences of demand 2, for a profile whose tokens have their lengths and a user that
+-- is a name.
 -- Assumes nothing.
 use mathlib.Core.Path.{_≡_, refl, sym, ap, subst, _∙_}
 use mathlib.Core.Bool.{Bool, true, false, not, _&&_, _||_}
@@ -14,9 +15,7 @@ use borrow.Author.Tests.{eq-eqb, not-true}
 use Rattle.octets.specs.Same.{same}
 use Rattle.octets.proofs.Equality.{same-sound, same-refl}
 use Rattle.names.specs.Name.{isName, profileLimit}
-use Rattle.profile.specs.Profile.{shapeOf, Profile, desAllowed, storedDes, storedSha}
-use Rattle.profile.specs.Theorems.{WellFormed}
-use Rattle.profile.proofs.Shapes.{token-lengths}
+use Rattle.profile.specs.Profile.{Profile, desAllowed, storedDes, storedSha}
 use Rattle.password_sha.specs.Sha.{isPassword, PW-token, PW-SUB}
 use Rattle.password_check.specs.Gives.{desLength, shaLength, seedLength, areSeeds, desSubstituteOf, givesClear, givesDes, givesSha}
 use Rattle.signon.specs.Attempt.{isClear, isClearPassword, isDesSubstitute, isShaSubstitute}
@@ -27,23 +26,23 @@ pub no-so : (b : Bool) → (T b → ⊥) → b ≡ false
 no-so true never = absurd (never tt)
 no-so false never = refl
 
-not-yes : (b : Bool) → T (not b) → b ≡ false
+pub not-yes : (b : Bool) → T (not b) → b ≡ false
 not-yes b t = not-true b (is-true (not b) t)
 
-yes-not : (b : Bool) → b ≡ false → T (not b)
+pub yes-not : (b : Bool) → b ≡ false → T (not b)
 yes-not b e = rw e tt
 
 -- equal lists pass the test
-same-equal : (a b : List ℕ) → a ≡ b → T (same a b)
+pub same-equal : (a b : List ℕ) → a ≡ b → T (same a b)
 same-equal a b e = subst (λ l. T (same a l)) e (same-refl a)
 
 -- clear seeds
-clear-seed : (seed : List ℕ) → T (isClear seed) → (seed ≡ []) ⊎ (seed ≡ zeroSeed)
+pub clear-seed : (seed : List ℕ) → T (isClear seed) → (seed ≡ []) ⊎ (seed ≡ zeroSeed)
 unfolding isClear
 clear-seed seed t =
     ⊎-elim (λ a. inl (same-sound seed [] a)) (λ b. inr (same-sound seed zeroSeed b)) (or-yes (same seed []) (same seed zeroSeed) t)
 
-seed-clear : (seed : List ℕ) → (seed ≡ []) ⊎ (seed ≡ zeroSeed) → T (isClear seed)
+pub seed-clear : (seed : List ℕ) → (seed ≡ []) ⊎ (seed ≡ zeroSeed) → T (isClear seed)
 unfolding isClear same
 seed-clear seed (inl e) = rw e tt
 seed-clear seed (inr e) = rw e tt
@@ -52,7 +51,7 @@ other-seed : (seed : List ℕ) → length seed ≡ seedLength → (seed ≡ zero
 other-seed seed eight other =
     no-so (isClear seed) (λ t. ⊎-elim (λ e. omega (arith, ap length e)) other (clear-seed seed t))
 
-module _ (v : ℕ) (p : Profile) (formed : WellFormed (shapeOf v) p) (user : List ℕ) (good : isName profileLimit user ≡ true) where
+module _ (p : Profile) (des8 : length (storedDes p) ≡ desLength) (sha20 : length (storedSha p) ≡ shaLength) (user : List ℕ) (good : isName profileLimit user ≡ true) where
   module _ (serverSeed : List ℕ) (eight : length serverSeed ≡ seedLength) (seed value : List ℕ) where
     pub clear-says : T (isClearPassword p user serverSeed seed value) → ByPassword p user seed value
     unfolding isClearPassword givesClear
@@ -77,7 +76,7 @@ module _ (v : ℕ) (p : Profile) (formed : WellFormed (shapeOf v) p) (user : Lis
       pub notZero : seed ≡ zeroSeed → ⊥
       pub is : value ≡ substitute
 
-    asked-says : (substitute : List ℕ) → isClear seed ≡ false → T (asked substitute) → Gives substitute
+    pub asked-says : (substitute : List ℕ) → isClear seed ≡ false → T (asked substitute) → Gives substitute
     asked-says substitute other t =
         let s = and-yes (areSeeds serverSeed seed) _ t in
         let n = and-yes (isName profileLimit user) _ (s .1) in
@@ -87,7 +86,7 @@ module _ (v : ℕ) (p : Profile) (formed : WellFormed (shapeOf v) p) (user : Lis
           is = sym (same-sound substitute value (n .1));
         }
 
-    said-asked : (substitute : List ℕ) → Gives substitute → T (asked substitute)
+    pub said-asked : (substitute : List ℕ) → Gives substitute → T (asked substitute)
     said-asked substitute g =
         yes-and (areSeeds serverSeed seed) _
         (yes-and (eqb (length serverSeed) seedLength) (eqb (length seed) seedLength)
@@ -117,7 +116,7 @@ module _ (v : ℕ) (p : Profile) (formed : WellFormed (shapeOf v) p) (user : Lis
     des-said l z d e =
         yes-and (not (isClear seed)) _ (yes-not (isClear seed) (other-seed seed l z))
         (yes-and (desAllowed p) _ d
-        (yes-and (eqb (length (storedDes p)) desLength) _ (passes (eqb (length (storedDes p)) desLength) (eq-eqb _ _ (token-lengths v p formed .0)))
+        (yes-and (eqb (length (storedDes p)) desLength) _ (passes (eqb (length (storedDes p)) desLength) (eq-eqb _ _ des8))
         (said-asked (desSubstituteOf (storedDes p) user serverSeed seed) (record { length = l; notZero = z; is = e }))))
 
     sha-said : length seed ≡ seedLength → (seed ≡ zeroSeed → ⊥) → value ≡ PW-SUB (storedSha p) serverSeed seed user
@@ -125,7 +124,7 @@ module _ (v : ℕ) (p : Profile) (formed : WellFormed (shapeOf v) p) (user : Lis
     unfolding isShaSubstitute givesSha
     sha-said l z e =
         yes-and (not (isClear seed)) _ (yes-not (isClear seed) (other-seed seed l z))
-        (yes-and (eqb (length (storedSha p)) shaLength) _ (passes (eqb (length (storedSha p)) shaLength) (eq-eqb _ _ (token-lengths v p formed .1)))
+        (yes-and (eqb (length (storedSha p)) shaLength) _ (passes (eqb (length (storedSha p)) shaLength) (eq-eqb _ _ sha20))
         (said-asked (PW-SUB (storedSha p) serverSeed seed user) (record { length = l; notZero = z; is = e })))
 
     pub substitute-said : BySubstitute p user serverSeed seed value

@@ -18,6 +18,7 @@ use Rattle.profile.specs.Profile.{Shape, shapeOf, Profile, enabled}
 use Rattle.profile.specs.Lookup.{ProfileLookup, noProfile, oneProfile, profileNamed}
 use Rattle.profile.specs.Theorems.{WellFormed, Ascending, Occurs}
 use Rattle.profile.proofs.Members.{lookup-is-membership}
+use Rattle.profile.proofs.Shapes.{token-lengths}
 use Rattle.password_check.specs.Gives.{seedLength}
 use Rattle.signon.specs.declared.Verdict.{Verdict}
 use Rattle.signon.specs.declared.Verdict.the-variants.{Panel, NotKnown, Disabled, Failed, Grant}
@@ -92,16 +93,16 @@ module _ (seed : List ℕ) (eight : length seed ≡ seedLength) (version : ℕ) 
       by-rules : Sentence seed ps vs (firstOf (grantConditions (at (present s) (present o) (present u) (oneProfile p))) Failed)
       unfolding firstOf grantConditions valueOr
       by-rules =
-          let f = formed p (n .occurs) in
+          let f = token-lengths version p (formed p (n .occurs)) in
           choice (Sentence seed ps vs) (isClearPassword p u seed s o)
-          (λ t. grants (inr (clear-says version p f u good seed eight s o (passes (isClearPassword p u seed s o) t))))
+          (λ t. grants (inr (clear-says p (f .0) (f .1) u good seed eight s o (passes (isClearPassword p u seed s o) t))))
           (λ noClear. choice (Sentence seed ps vs) (isDesSubstitute p u seed s o)
-          (λ t. grants (inl (des-says version p f u good seed eight s o (passes (isDesSubstitute p u seed s o) t))))
+          (λ t. grants (inl (des-says p (f .0) (f .1) u good seed eight s o (passes (isDesSubstitute p u seed s o) t))))
           (λ noDes. choice (Sentence seed ps vs) (isShaSubstitute p u seed s o)
-          (λ t. grants (inl (sha-says version p f u good seed eight s o (passes (isShaSubstitute p u seed s o) t))))
+          (λ t. grants (inl (sha-says p (f .0) (f .1) u good seed eight s o (passes (isShaSubstitute p u seed s o) t))))
           (λ noSha. fails (λ g. ⊎-elim
-          (λ b. ⊎-elim (λ d. subst T noDes d) (λ h. subst T noSha h) (substitute-said version p f u good seed eight s o b))
-          (λ b. subst T noClear (clear-said version p f u good seed eight s o b))
+          (λ b. ⊎-elim (λ d. subst T noDes d) (λ h. subst T noSha h) (substitute-said p (f .0) (f .1) u good seed eight s o b))
+          (λ b. subst T noClear (clear-said p (f .0) (f .1) u good seed eight s o b))
           (by-these g)))))
 
     one-is-missing : (cs of : Lookup) → Finds vs USERVAR IBMRSEED cs → Finds vs USERVAR IBMSUBSPW of

@@ -3,3 +3,5 @@ pub mod Attempt
 pub mod Verdict
 pub mod Refusals
 pub mod Theorems
+pub mod Reason
+pub mod ReasonTheorems

@@ -1,7 +1,7 @@
 -- What each test of the code says of the verdict. Assumes nothing.
 use mathlib.Core.Path.{_≡_, refl, sym, ap, subst, _∙_}
-use mathlib.Core.Bool.{Bool, true, false, not, _&&_, _||_}
-use mathlib.Core.List.{List, [], _∷_, map}
+use mathlib.Core.Bool.{Bool, true, false, not, _&&_}
+use mathlib.Core.List.{List, []}
 use Prim.Native.Nat.{ℕ}
 use native.Mathlib.Omega.{arith}
 use lib.Dec.{T}
@@ -33,28 +33,16 @@ use Rattle.profile_table.proofs.Meaning.{found-is-named}
 use Rattle.signon.specs.declared.Verdict.{Verdict}
 use Rattle.signon.specs.declared.Verdict.the-variants.{Panel, NotKnown, Disabled, Failed, Grant}
 use Rattle.signon.specs.declared.Answer.the-variants.{Given, Refused}
-use Rattle.signon.specs.Attempt.{USER, IBMRSEED, IBMSUBSPW, Attempt, attemptBy, attempt, isPresent, GrantRule, grantRules, oneHolds}
-use Rattle.signon.specs.Verdict.{_gives_, firstOf, grantConditions, profileConditions, conditions, verdictOf, answerBy}
+use Rattle.signon.specs.Attempt.{USER, IBMRSEED, IBMSUBSPW, Attempt, attemptBy, attempt, isPresent, grantRules, oneHolds}
+use Rattle.signon.specs.Verdict.{firstOf, grantConditions, profileConditions, conditions, verdictOf, answerBy}
 use Rattle.signon.proofs.Sentences.{formed-in}
+use Rattle.signon.proofs.Reasons.{granted}
 use Rattle.signon_verdict.specs.internal.Decisions.{userOf, seedOf, offeredOf, seedGiven, offerGiven, isPanel, IsEntry}
 
 -- whether a variable is there, by the place of its value
 pub there-by : (kind : ℕ) (name bytes numbers : List ℕ) (p q : ValuePlace) → p ≡ placeOf kind name bytes numbers → p ≡ q
     → isPresent (valueAt bytes q) ≡ isPresent (lookup kind name (variablesHeld bytes numbers))
 there-by kind name bytes numbers p q e told = ap isPresent (ap (valueAt bytes) (sym told ∙ e) ∙ finds-the-value kind name bytes numbers)
-
--- the conditions for GRANT give it where one of the rules holds
-one-more : (b t : Bool) (v : Verdict) → v ≡ (if t then Grant else Failed) → (if b then Grant else v) ≡ (if b || t then Grant else Failed)
-one-more true t v e = refl
-one-more false t v e = e
-
-granted : (rules : List GrantRule) (p : Profile) (name server client offered : List ℕ)
-    → firstOf (map (λ rule. rule p name server client offered gives Grant) rules) Failed
-    ≡ (if oneHolds rules p name server client offered then Grant else Failed)
-unfolding firstOf oneHolds
-granted [] p name server client offered = refl
-granted (rule ∷ rules) p name server client offered =
-    one-more (rule p name server client offered) (oneHolds rules p name server client offered) _ (granted rules p name server client offered)
 
 -- three conditions that all say 0002
 not-known : (a b : Bool) → (if a then NotKnown else if b then NotKnown else NotKnown) ≡ NotKnown

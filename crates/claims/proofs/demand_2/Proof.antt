@@ -21,6 +21,8 @@ use Rattle.profile_table.proofs.Meaning.{found-is-named}
 use Rattle.profile_maker.proofs.Goodness.{made-records-are-good, made-tables-read}
 use Rattle.password_check.proofs.Own.{own-password-gives, only-its-lengths}
 use Rattle.signon.proofs.Verdicts.{verdict-is-its-sentence, no-verdict-if-refused, only-enabled-granted}
+use Rattle.signon.proofs.Reasons.{reason-is-first, some-cause-holds, words-in-order, verdict-of-its-reason, granted-exactly}
+use Rattle.signon.proofs.Conditions.{conditions-say}
 use Rattle.startup.proofs.Records.{responses-are-right, figures}
 use Rattle.print_frame.proofs.Sentences.{frame-is-its-sentence}
 use Rattle.print_frame.proofs.Limits.{too-long-to-say}
@@ -70,6 +72,12 @@ returns c = record {
   verdictIsItsSentence = verdict-is-its-sentence;
   noVerdictIfRefused = no-verdict-if-refused;
   onlyEnabledGranted = only-enabled-granted;
+  reasonIsFirst = reason-is-first;
+  someCauseHolds = some-cause-holds;
+  wordsInOrder = words-in-order;
+  verdictOfItsReason = verdict-of-its-reason;
+  grantedExactly = granted-exactly;
+  conditionsSay = conditions-say;
   madeSignsOn = made-signs-on;
   responsesAreRight = responses-are-right;
   figures = figures;
