@@ -1,40 +1,8 @@
-// Runs the calls for C on verdicts, on the cases of standard input, one a line: a title, a colon, and in hexadecimal
+// Runs the call for C on verdicts, on the cases of standard input, one a line: a title, a colon, and in hexadecimal
 // digits a byte that says which call, and its arguments. A line of output has the title and the numbers of the answer
-// in the order of its struct, and the code that was written, or the whole record in the room that was lent. `stdin` and
-// `stdout` were made by a Python script from the constants of include/tongvelvet.h, the sign-ons of `run_signon` and
-// the records of `run_startup`: every verdict, both ways, and numbers that name none.
-use show_case::say_numbers;
+// in the order of its struct. `stdin` and `stdout` were made by a Python script from the constants of
+// include/tongvelvet.h and the sign-ons of `run_signon`: every verdict. Response records are in `run_export_response`.
 use show_case::say_values;
-
-// The response code of the record, in EBCDIC.
-fn respond(fault: u8, verdict: u8) {
-    let mut out = [0u8; 73];
-    let w = export_signon::tv_response(fault == 1, verdict, b"TARGET", b"PCPRINTER", &mut out);
-    say_numbers(&[w.refusal as usize, w.length]);
-    say_values(octets_part::part(&out, 16, 4));
-}
-
-fn respond_into(case: &[u8], out: &mut [u8]) {
-    let n = octets_part::byte_at(case, 3) as usize;
-    let w = export_signon::tv_response(
-        octets_part::byte_at(case, 0) == 1,
-        octets_part::byte_at(case, 1),
-        octets_part::part(case, 4, n),
-        octets_part::part(case, 4 + n, case.len()),
-        out,
-    );
-    say_numbers(&[w.refusal as usize, w.length]);
-    show_case::say_bytes(out);
-}
-
-// The whole record in the room that the case lends, for the names that it has.
-fn respond_whole(case: &[u8]) {
-    let mut out = [0xEEu8; 80];
-    let room = octets_part::byte_at(case, 2) as usize;
-    if room <= 80 {
-        respond_into(case, &mut out[0..room]);
-    }
-}
 
 // A sign-on: the seed has eight bytes, then the length of the table, the table and the payload.
 fn judge(case: &[u8]) {
@@ -48,12 +16,7 @@ fn judge(case: &[u8]) {
 }
 
 fn run_case(case: &[u8]) {
-    let rest = octets_part::part(case, 1, case.len());
-    match octets_part::byte_at(case, 0) {
-        8 => respond(octets_part::byte_at(case, 1), octets_part::byte_at(case, 2)),
-        10 => respond_whole(rest),
-        _ => judge(rest),
-    }
+    judge(octets_part::part(case, 1, case.len()));
 }
 
 fn run_line(line: &[u8]) {
