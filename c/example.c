@@ -258,6 +258,10 @@ static uint8_t sign_on(struct end *host, struct end *printer, const uint8_t *tab
 	if (v.refusal)
 		die("verdict", v.refusal);
 	printf(": %s", verdict_name(v.verdict));
+	/* for the operator's desk; the client is told the verdict, and no more */
+	if (v.verdict != TV_VERDICT_GRANT)
+		fprintf(stderr, "sign-on: reason %d (docs/REASONS.md)\n",
+				tv_explain(server_seed, sizeof server_seed, table, table_length, payload, event.length).reason);
 	return v.verdict;
 }
 

@@ -789,18 +789,21 @@ static void put_variable(struct variables *v, size_t kind, const char *name, con
 	v->length += length;
 }
 
-static uint64_t verdicts[TV_VERDICT_GRANT + 1];
+static uint64_t signed_on[TV_REASON_GRANTED + 1];
 
-static uint8_t verdict_on(const uint8_t *seed, size_t seed_length, const struct profiles *p, const uint8_t *payload, size_t length)
+/* Verdict and reason agree, refusals included: the reason's tens are the verdict's number. */
+static uint8_t reason_on(const uint8_t *seed, size_t seed_length, const struct profiles *p, const uint8_t *payload, size_t length)
 {
 	struct slice s = give(0, seed, seed_length), table = give(1, p->table, p->length), said = give(2, payload, length);
 	tv_judged_t j = tv_verdict(s.bytes, s.length, table.bytes, table.length, said.bytes, said.length);
+	tv_explained_t e = tv_explain(s.bytes, s.length, table.bytes, table.length, said.bytes, said.length);
 
 	given_as_were();
 	CHECK(j.verdict <= TV_VERDICT_GRANT && counted(VERDICT, j.refusal) == (j.verdict != 0));
-	verdicts[j.verdict]++;
+	CHECK(counted(EXPLAIN, e.refusal) == (e.reason != 0));
+	CHECK(e.refusal == j.refusal && e.reason / 10 == j.verdict);
 	CHECK(seed_length == TV_SEED_LENGTH || j.refusal == 35);
-	return j.verdict;
+	return e.reason;
 }
 
 /* What a client offers for its password under two seeds: in clear, by DES or by SHA-1. */
@@ -821,32 +824,6 @@ static size_t offer(const struct user *u, size_t way, const uint8_t *server_seed
 	CHECK(!sha_substitute(tokens + 8, TV_SHA_LENGTH, u, number_of(server_seed), number_of(client_seed), TV_SHA_LENGTH).refusal);
 	memcpy(offered, front(&out_room), TV_SHA_LENGTH);
 	return TV_SHA_LENGTH;
-}
-
-/* A user of the table signs on: granted exactly if enabled and what is offered is right. */
-static void try_sign_on(const struct profiles *p, const uint8_t *server_seed)
-{
-	static struct variables v;
-	const struct user *u = &p->users[below(p->count)];
-	uint8_t client_seed[8], offered[160];
-	size_t way = below(3), length;
-	bool wrong = one_in(3), unknown = one_in(8), des = u->record[2] >> 1;
-
-	fill(client_seed, sizeof client_seed);
-	client_seed[0] |= 1;
-	length = offer(u, way, server_seed, client_seed, offered);
-	if (wrong)
-		offered[below(length)] ^= (uint8_t)(1 << below(8));
-	v = (struct variables){.first = TV_ENV_IS};
-	put_variable(&v, TV_ENV_VAR, "USER", unknown ? (const uint8_t *)"NOBODY" : u->name, unknown ? 6 : u->name_length);
-	put_variable(&v, TV_ENV_USERVAR, "IBMRSEED", client_seed, way ? 8 : 0);
-	put_variable(&v, TV_ENV_USERVAR, "IBMSUBSPW", offered, length);
-	tv_written_t w = write_payload(&v, 1024);
-	CHECK(!w.refusal);
-	uint8_t payload[1024], verdict;
-	memcpy(payload, front(&out_room), w.length);
-	verdict = verdict_on(server_seed, TV_SEED_LENGTH, p, payload, w.length);
-	CHECK(verdict == (unknown ? TV_VERDICT_NOT_KNOWN : !u->enabled ? TV_VERDICT_DISABLED : wrong || (way == 1 && !des) ? TV_VERDICT_FAILED : TV_VERDICT_GRANT));
 }
 
 static uint8_t ebcdic(uint8_t b)
@@ -872,6 +849,105 @@ static bool is_name(const uint8_t *name, size_t length, size_t limit)
 		if (!ebcdic(name[i]))
 			return false;
 	return length && length <= limit;
+}
+
+/* What a client says of itself, and whether what it offers is right under its seed. */
+struct said {
+	bool has_user, has_seed, has_offer, right;
+	uint8_t user[16], seed[16], offered[160];
+	size_t user_length, seed_length, offer_length;
+};
+
+static bool is_clear(const struct said *s)
+{
+	static const uint8_t zeros[TV_SEED_LENGTH];
+
+	return !s->seed_length || (s->seed_length == TV_SEED_LENGTH && !memcmp(s->seed, zeros, sizeof zeros));
+}
+
+/* One thing of it changed, or none. */
+static void spoil(struct said *s)
+{
+	switch (below(12)) {
+	case 0: s->has_user = false; break;
+	case 1: s->user_length = one_in(2) ? 0 : 11; break;
+	case 2: s->user_length = 6, memcpy(s->user, "NOBODY", 6); break;
+	case 3: s->has_seed = false; break;
+	case 4: s->has_offer = false; break;
+	case 5: s->has_seed = s->has_offer = false; break;
+	case 6: s->seed_length = below(sizeof s->seed + 1); break;
+	case 7: s->offer_length = below(sizeof s->offered + 1); break;
+	case 8: s->offered[s->offer_length ? below(s->offer_length) : 0] ^= (uint8_t)(1 << below(8)); break;
+	default: break;
+	}
+}
+
+/* In clear, by DES or by SHA-1. */
+static void say_of(struct said *s, const struct user *u, const uint8_t *server_seed)
+{
+	size_t way = below(3), length;
+	uint8_t offered[sizeof s->offered];
+
+	*s = (struct said){.has_user = true, .has_seed = true, .has_offer = true, .user_length = u->name_length};
+	memcpy(s->user, u->name, u->name_length);
+	fill(s->seed, sizeof s->seed);
+	s->seed[0] |= 1;
+	fill(s->offered, sizeof s->offered);
+	length = offer(u, way, server_seed, s->seed, offered);
+	memcpy(s->offered, offered, length);
+	s->offer_length = length;
+	s->seed_length = way || one_in(2) ? TV_SEED_LENGTH : 0;
+	if (!way)
+		memset(s->seed, 0, TV_SEED_LENGTH);
+	spoil(s);
+	s->right = s->offer_length == length && !memcmp(s->offered, offered, length)
+		&& (way ? s->seed_length == TV_SEED_LENGTH : is_clear(s));
+}
+
+/* The first reason that holds, in the order of change request No. 1; u is the user of that name, if there is one. */
+static uint8_t reason_of(const struct said *s, const struct user *u)
+{
+	bool printable = s->offer_length && s->offer_length <= TV_PASSWORD_LIMIT;
+
+	for (size_t i = 0; i < s->offer_length; i++)
+		printable = printable && s->offered[i] >= 0x20 && s->offered[i] <= 0x7E;
+	return !s->has_seed && !s->has_offer ? TV_REASON_PANEL_ASKED_FOR
+		: !s->has_user ? TV_REASON_NO_USER
+		: !is_name(s->user, s->user_length, TV_NAME_LIMIT) ? TV_REASON_BAD_NAME
+		: !u ? TV_REASON_NOT_IN_THE_TABLE
+		: !u->enabled ? TV_REASON_DISABLED
+		: !s->has_seed ? TV_REASON_SEED_VARIABLE_MISSING
+		: !s->has_offer ? TV_REASON_SUBSTITUTE_MISSING
+		: s->seed_length && s->seed_length != TV_SEED_LENGTH ? TV_REASON_SEED_LENGTH
+		: !is_clear(s) && s->offer_length != 8 && s->offer_length != TV_SHA_LENGTH ? TV_REASON_SUBSTITUTE_LENGTH
+		: !is_clear(s) && s->offer_length == 8 && !(u->record[2] >> 1) ? TV_REASON_DES_NOT_ALLOWED
+		: is_clear(s) && !printable ? TV_REASON_CLEAR_PASSWORD_MALFORMED
+		: !s->right ? TV_REASON_TOKEN_DIFFERS : TV_REASON_GRANTED;
+}
+
+/* A user of the table signs on. */
+static void try_sign_on(const struct profiles *p, const uint8_t *server_seed)
+{
+	static struct variables v;
+	static struct said s;
+	const struct user *u = &p->users[below(p->count)];
+	uint8_t payload[1024], reason;
+	tv_written_t w;
+
+	say_of(&s, u, server_seed);
+	v = (struct variables){.first = TV_ENV_IS};
+	if (s.has_user)
+		put_variable(&v, TV_ENV_VAR, "USER", s.user, s.user_length);
+	if (s.has_seed)
+		put_variable(&v, TV_ENV_USERVAR, "IBMRSEED", s.seed, s.seed_length);
+	if (s.has_offer)
+		put_variable(&v, TV_ENV_USERVAR, "IBMSUBSPW", s.offered, s.offer_length);
+	w = write_payload(&v, 1024);
+	CHECK(!w.refusal);
+	memcpy(payload, front(&out_room), w.length);
+	reason = reason_of(&s, s.user_length == 6 && !memcmp(s.user, "NOBODY", 6) ? NULL : u);
+	CHECK(reason_on(server_seed, TV_SEED_LENGTH, p, payload, w.length) == reason);
+	signed_on[reason]++;
 }
 
 static size_t put_ebcdic(uint8_t *out, const uint8_t *text, size_t length, size_t width)
@@ -925,11 +1001,11 @@ static void try_verdict(void)
 
 	fill_table(&p);
 	fill(seed, sizeof seed);
-	verdict_on(seed, one_in(20) ? below(16) : TV_SEED_LENGTH, &p, payload, length);
+	reason_on(seed, one_in(20) ? below(16) : TV_SEED_LENGTH, &p, payload, length);
 	if (p.good && p.count)
 		try_sign_on(&p, seed);
 	if (p.good)
-		CHECK(verdict_on(seed, TV_SEED_LENGTH, &p, (const uint8_t *)"", 1) == TV_VERDICT_PANEL);
+		CHECK(reason_on(seed, TV_SEED_LENGTH, &p, (const uint8_t *)"", 1) == TV_REASON_PANEL_ASKED_FOR);
 	try_response();
 }
 
@@ -1033,6 +1109,11 @@ static void try_one(void)
 
 static void tell_counts(void)
 {
+	static const uint8_t reasons[] = {TV_REASON_PANEL_ASKED_FOR, TV_REASON_NO_USER, TV_REASON_BAD_NAME, TV_REASON_NOT_IN_THE_TABLE,
+			TV_REASON_DISABLED, TV_REASON_SEED_VARIABLE_MISSING, TV_REASON_SUBSTITUTE_MISSING, TV_REASON_SEED_LENGTH,
+			TV_REASON_SUBSTITUTE_LENGTH, TV_REASON_DES_NOT_ALLOWED, TV_REASON_CLEAR_PASSWORD_MALFORMED, TV_REASON_TOKEN_DIFFERS,
+			TV_REASON_GRANTED};
+
 	for (size_t i = 0; i < HOW_MANY; i++) {
 		const uint8_t *r = promises[i].refusals;
 		printf("%-20s answered %6llu", promises[i].name, (unsigned long long)counts[i][0]);
@@ -1045,8 +1126,8 @@ static void tell_counts(void)
 		for (const uint8_t *r = promises[i].refusals; *r; r++)
 			CHECK(counts[i][*r]);
 	}
-	for (size_t i = TV_VERDICT_PANEL; i <= TV_VERDICT_GRANT; i++)
-		CHECK(verdicts[i]);
+	for (size_t i = 0; i < sizeof reasons; i++)
+		CHECK(signed_on[reasons[i]]);
 	CHECK(absent && absent < counts[ENV_VALUE][0]);
 }
 

@@ -187,6 +187,18 @@ static void verdict(void)
 	}
 }
 
+static void explain(void)
+{
+	static const size_t lengths[] = {8, 20, 128};
+	for (size_t i = 0; i < 3; i++) {
+		fill_payload(seed, i == 2 ? 0 : sizeof seed, phrase, lengths[i]);
+		memcpy(payload + payload_length, more, sizeof more);
+		tv_explain(seed, sizeof seed, table, table_length, payload, payload_length + sizeof more);
+		if (tv_explain(seed, sizeof seed, table, table_length, payload, payload_length).reason / 10 != TV_VERDICT_FAILED)
+			abort();
+	}
+}
+
 static void response(void)
 {
 	for (unsigned v = 0; v < 7; v++)
@@ -242,6 +254,7 @@ static const struct measure {
 	{"tv_sha_token", sha_token, TV_STACK_SHA_TOKEN},
 	{"tv_sha_substitute", sha_substitute, TV_STACK_SHA_SUBSTITUTE},
 	{"tv_verdict", verdict, TV_STACK_VERDICT},
+	{"tv_explain", explain, TV_STACK_EXPLAIN},
 	{"tv_response", response, TV_STACK_RESPONSE},
 	{"tv_read_frame", read_frame, TV_STACK_READ_FRAME},
 	{"tv_ledger_fresh", ledger_fresh, TV_STACK_LEDGER_FRESH},

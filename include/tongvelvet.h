@@ -650,6 +650,42 @@ extern tv_judged_t tv_verdict(const uint8_t *server_seed, size_t seed_length,
 		const uint8_t *payload, size_t payload_length);
 
 /*
+ * Why a verdict is what it is: the tens are its TV_VERDICT_... . 0 stands
+ * beside a refusal only. Later reasons will get numbers between these, in the
+ * tens of their verdict: branch by the tens, and name those that you show.
+ * docs/REASONS.md has the words of each, and what to do.
+ */
+#define TV_REASON_PANEL_ASKED_FOR 10
+#define TV_REASON_NO_USER 21
+#define TV_REASON_BAD_NAME 22
+#define TV_REASON_NOT_IN_THE_TABLE 23
+#define TV_REASON_DISABLED 31
+#define TV_REASON_SEED_VARIABLE_MISSING 41
+#define TV_REASON_SUBSTITUTE_MISSING 42
+#define TV_REASON_SEED_LENGTH 43
+#define TV_REASON_SUBSTITUTE_LENGTH 45
+#define TV_REASON_DES_NOT_ALLOWED 46
+#define TV_REASON_CLEAR_PASSWORD_MALFORMED 48
+#define TV_REASON_TOKEN_DIFFERS 49
+#define TV_REASON_GRANTED 50
+
+typedef struct tv_explained {
+	uint8_t refusal;
+	uint8_t reason; /* TV_REASON_... */
+} tv_explained_t;
+
+/*
+ * Why tv_verdict judges a payload as it does: the first reason that holds, in
+ * the order of their numbers. It is for the operator's desk: what a client is
+ * told is the verdict's digits, which say less.
+ * Refused as tv_verdict is: by 35; 30 to 32; 3; 20 to 25.
+ */
+#define TV_STACK_EXPLAIN 24576
+extern tv_explained_t tv_explain(const uint8_t *server_seed, size_t seed_length,
+		const uint8_t *table, size_t table_length,
+		const uint8_t *payload, size_t payload_length);
+
+/*
  * Writes the start-up response record to the front of out: 8902 for a device
  * fault, else the code of the verdict. A number that is no verdict reads as
  * TV_VERDICT_FAILED. A system name has 1 to 8 bytes, a device name 1 to 10.
@@ -834,6 +870,10 @@ TV_AT(tv_block_t, value, 8);
 TV_LAYOUT(sizeof(tv_judged_t) == 2);
 TV_AT(tv_judged_t, refusal, 0);
 TV_AT(tv_judged_t, verdict, 1);
+
+TV_LAYOUT(sizeof(tv_explained_t) == 2);
+TV_AT(tv_explained_t, refusal, 0);
+TV_AT(tv_explained_t, reason, 1);
 
 TV_LAYOUT(sizeof(tv_frame_t) == 48);
 TV_AT(tv_frame_t, refusal, 0);

@@ -51,7 +51,10 @@ use Rattle.password_sha.specs.Answer.{shaToken, shaSubstitute}
 use Rattle.signon.specs.declared.Answer.{Answer as SignonAnswer}
 use Rattle.signon.specs.declared.Answer.the-variants.{Given, Refused as SignonRefused}
 use Rattle.signon.specs.Verdict.{answerOf}
-use Rattle.signon.specs.Refusals.{verdictRefusal}
+use Rattle.signon.specs.declared.Explained.{Explained}
+use Rattle.signon.specs.declared.Explained.the-variants.{Because, Refused as NotExplained}
+use Rattle.signon.specs.Reason.{explainOf}
+use Rattle.signon.specs.Refusals.{verdictRefusal, explainRefusal}
 use Rattle.startup_record.specs.Promise.{respondInto}
 use Rattle.print_frame.specs.declared.FrameAnswer.{FrameAnswer}
 use Rattle.print_frame.specs.declared.FrameAnswer.the-variants.{Read as ReadFrame, Refused as FrameRefused}
@@ -76,7 +79,7 @@ use Rattle.export_option.specs.Numbers.{answering, answeredNumbers, receiveName
 use Rattle.export_env.specs.Numbers as Env
 use Rattle.export_profile.specs.Numbers.{tableNumbers, foundNumbers}
 use Rattle.export_password.specs.Numbers.{shaLength, blockNumbers, hashInto, substituteInto}
-use Rattle.export_signon.specs.Numbers.{verdictNamed, answerNumbers}
+use Rattle.export_signon.specs.Numbers.{verdictNamed, answerNumbers, explainedNumbers}
 use Rattle.export_print.specs.declared.TvLedger.{TvLedger}
 use Rattle.export_print.specs.Numbers.{frameNumbers, ledgerNumbers, ledgerNamed, receiptNumbers, completionNumbers}
 use Rattle.claims.specs.Refusals.{oneOf, Refuses, byReceipt}
@@ -88,7 +91,7 @@ use Rattle.claims.proofs.SessionRefusals.{session-receives, session-req
 use Rattle.claims.proofs.SessionRefusals.{line-hears}
 use Rattle.claims.proofs.PayloadRefusals.{reads-payloads, writes-payloads}
 use Rattle.claims.proofs.SignonRefusals.{checks, finds, makes, des-tokens, sha-tokens, des-substitutes}
-use Rattle.claims.proofs.SignonRefusals.{sha-substitutes, judges, responds, reads-frames, takes, completes}
+use Rattle.claims.proofs.SignonRefusals.{sha-substitutes, judges, explains, responds, reads-frames, takes, completes}
 
 -- the number that tells a refusal: 0 where there is none
 abbrev numberOf : Refusal → ℕ
@@ -149,6 +152,10 @@ found-number (LookupRefused n) = refl
 block-number : (a : Block) → blockNumbers a .refusal ≡ numberOf (blockRefusal a)
 block-number (Value x) = refl
 block-number (NoBlock n) = refl
+
+explained-number : (x : Explained) → explainedNumbers x .refusal ≡ numberOf (explainRefusal x)
+explained-number (Because r) = refl
+explained-number (NotExplained n) = refl
 
 signon-number : (a : SignonAnswer) → answerNumbers a .refusal ≡ numberOf (verdictRefusal a)
 signon-number (Given v) = refl
@@ -322,6 +329,7 @@ demand-1-c-holds = record {
   shaToken = sha-tokens-written;
   shaSubstitute = sha-substitutes-written;
   verdict = λ seed t p. told-by verdictRefusal signon-number _ (answerOf seed t p) (judges seed t p);
+  explain = λ seed t p. told-by explainRefusal explained-number _ (explainOf seed t p) (explains seed t p);
   response = λ fault verdict system device out.
       let v = verdictNamed verdict in
       told-into writtenRefusal written-number _ out (respondInto fault v system device out)

@@ -1,6 +1,6 @@
 -- Profile tables, the token maker, verdicts, response records, frames and the ledger: they refuse by their own numbers,
 -- and leave all as it was. Assumes nothing.
-use mathlib.Core.Path.{refl}
+use mathlib.Core.Path.{_≡_, refl, ap, subst, _∙_}
 use mathlib.Core.Bool.{Bool, not, _||_}
 use mathlib.Core.List.{List, [], _∷_, _++_}
 use Prim.Native.Nat.{ℕ, zero, suc, _+_}
@@ -30,7 +30,11 @@ use Rattle.password_sha.specs.Answer.{noHash, shaToken, shaSubstitute}
 use Rattle.password_check.specs.Gives.{seedLength}
 use Rattle.signon.specs.declared.Verdict.{Verdict}
 use Rattle.signon.specs.Verdict.{answerBy, answerOf}
-use Rattle.signon.specs.Refusals.{verdictRefusal}
+use Rattle.signon.specs.declared.Explained.{Explained}
+use Rattle.signon.specs.declared.Explained.the-variants.{Because, Refused as NotExplained}
+use Rattle.signon.specs.Reason.{explainOf, answerFor}
+use Rattle.signon.specs.Refusals.{verdictRefusal, explainRefusal}
+use Rattle.signon.proofs.Reasons.{verdict-of-its-reason}
 use Rattle.startup.specs.Response.{responseOf}
 use Rattle.startup_record.specs.Promise.{respondInto}
 use Rattle.print_frame.specs.declared.Direction.{Direction}
@@ -154,6 +158,15 @@ unfolding answerOf oneOf
 judges seed t p =
     choice (λ a. RefusesBy (35 ∷ table ++ payload) (verdictRefusal a)) (not (eqb (length seed) seedLength))
     (λ _. (tt, refl)) (λ _. answered-by seed (tableOf t) (readingOf p) (table-by t) (reading-by p))
+
+-- an explanation is refused as the verdict is
+same-refusal : (x : Explained) → verdictRefusal (answerFor x) ≡ explainRefusal x
+same-refusal (Because r) = refl
+same-refusal (NotExplained n) = refl
+
+pub explains : (seed t p : List ℕ) → RefusesBy (35 ∷ table ++ payload) (explainRefusal (explainOf seed t p))
+explains seed t p =
+    subst (RefusesBy (35 ∷ table ++ payload)) (ap verdictRefusal (verdict-of-its-reason seed t p) ∙ same-refusal (explainOf seed t p)) (judges seed t p)
 
 pub responds : (fault : Bool) (v : Verdict) (system device out : List ℕ) → RefusesInto (36 ∷ 4 ∷ []) writtenRefusal out (respondInto fault v system device out)
 unfolding respondInto oneOf

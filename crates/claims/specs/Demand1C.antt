@@ -23,6 +23,7 @@ use Rattle.profile_maker.specs.Promise.{makeInto}
 use Rattle.password_des.specs.Answer.{desToken, desSubstitute}
 use Rattle.password_sha.specs.Answer.{shaToken}
 use Rattle.signon.specs.Verdict.{answerOf}
+use Rattle.signon.specs.Reason.{explainOf}
 use Rattle.startup_record.specs.Promise.{respondInto}
 use Rattle.print_frame.specs.Frame.{frameOf}
 use Rattle.print_ledger.specs.Ledger.{takeFrame, completeInto}
@@ -36,7 +37,7 @@ use Rattle.export_option.specs.Numbers.{sidesNamed, whoseNamed, commandNamed, r
 use Rattle.export_env.specs.Numbers as Env
 use Rattle.export_profile.specs.Numbers.{tableNumbers, foundNumbers}
 use Rattle.export_password.specs.Numbers.{blockNumbers, hashInto, substituteInto}
-use Rattle.export_signon.specs.Numbers.{verdictNamed, answerNumbers}
+use Rattle.export_signon.specs.Numbers.{verdictNamed, answerNumbers, explainedNumbers}
 use Rattle.export_print.specs.declared.TvLedger.{TvLedger}
 use Rattle.export_print.specs.Numbers.{frameNumbers, ledgerNamed, takenNumbers, completedNumbers}
 use Rattle.claims.specs.Refusals.{Refuses, byReceipt}
@@ -101,8 +102,9 @@ pub record Demand1C : Type 0 where
       → RefusesBy (33 ∷ []) (byNumber (blockNumbers (desSubstitute token name server client) .refusal))
   pub shaToken : (name password out : List ℕ) → Writes (33 ∷ 34 ∷ 4 ∷ []) out (hashInto (shaToken name password) out)
   pub shaSubstitute : (token name : List ℕ) (server client : ℕ) (out : List ℕ) → Writes (31 ∷ 33 ∷ 4 ∷ []) out (substituteInto token name server client out)
-  -- tv_verdict, tv_response
+  -- tv_verdict, tv_explain, tv_response
   pub verdict : (seed t p : List ℕ) → RefusesBy (35 ∷ table ++ payload) (byNumber (answerNumbers (answerOf seed t p) .refusal))
+  pub explain : (seed t p : List ℕ) → RefusesBy (35 ∷ table ++ payload) (byNumber (explainedNumbers (explainOf seed t p) .refusal))
   pub response : (fault : Bool) (verdict : ℕ) (system device out : List ℕ)
       → Writes (36 ∷ 4 ∷ []) out (numbered writtenNumbers (respondInto fault (verdictNamed verdict) system device out))
   -- tv_read_frame, tv_ledger_take, tv_ledger_complete

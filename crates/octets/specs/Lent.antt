@@ -16,6 +16,10 @@ outcome a l = record { answer = a; lent = l }
 unfoldable pub overwrite : (buffer : List ℕ) → ℕ → (bytes : List ℕ) → List ℕ
 overwrite buffer at bytes = take at buffer ++ (bytes ++ drop (at + length bytes) buffer)
 
+-- bytes put to the front of a buffer, and how many
+abbrev pub atFront : (bytes buffer : List ℕ) → Outcome ℕ
+atFront bytes buffer = outcome (length bytes) (overwrite buffer 0 bytes)
+
 -- bytes put at a place, told by the place after them and by the buffer as it is left
 pub record IsPut (bytes buffer : List ℕ) (at after : ℕ) (left : List ℕ) : Type 0 where
   pub place : after ≡ at + length bytes

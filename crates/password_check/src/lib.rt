@@ -4,6 +4,13 @@ ghost use mathlib.Core.Path.{_≡_};
 ghost use Rattle.password_check.specs.Gives.{givesClear, areSeeds, givesDes, givesSha};
 use password_des::Block;
 
+// How long tokens and substitutes by DES and by SHA-1 are, and a seed.
+pub const DES_LENGTH: usize = 8;
+
+pub const SHA_LENGTH: usize = 20;
+
+pub const SEED_LENGTH: usize = 8;
+
 // Whether a text is a password whose SHA-1 token, with a name, is the stored one.
 pub fn gives_clear(token: &[u8], name: &[u8], offered: &[u8]) -> bool
     ensures { λ r. ⌜ r ≡ givesClear (now (token .entry)) (now (name .entry)) (now (offered .entry)) ⌝ }
@@ -20,10 +27,10 @@ pub fn gives_clear(token: &[u8], name: &[u8], offered: &[u8]) -> bool
 fn are_seeds(server_seed: &[u8], client_seed: &[u8]) -> bool
     ensures { λ r. ⌜ r ≡ areSeeds (now («server_seed» .entry)) (now («client_seed» .entry)) ⌝ }
 {
-    if server_seed.len() != 8 {
+    if server_seed.len() != SEED_LENGTH {
         return false;
     }
-    client_seed.len() == 8
+    client_seed.len() == SEED_LENGTH
 }
 
 // Whether the offered bytes are the substitute by DES of the stored token, under two seeds.
@@ -38,7 +45,7 @@ pub fn gives_des(
         r ≡ givesDes (now (token .entry)) (now (name .entry)) (now («server_seed» .entry)) (now («client_seed» .entry)) (now (offered .entry))
         ⌝ }
 {
-    if token.len() != 8 {
+    if token.len() != DES_LENGTH {
         return false;
     }
     if !are_seeds(server_seed, client_seed) {
@@ -66,13 +73,13 @@ pub fn gives_sha(
         r ≡ givesSha (now (token .entry)) (now (name .entry)) (now («server_seed» .entry)) (now («client_seed» .entry)) (now (offered .entry))
         ⌝ }
 {
-    if token.len() != 20 {
+    if token.len() != SHA_LENGTH {
         return false;
     }
     if !are_seeds(server_seed, client_seed) {
         return false;
     }
-    let mut bytes = [0u8; 20];
+    let mut bytes = [0u8; SHA_LENGTH];
     octets::put(token, &mut bytes, 0);
     let server = words::word_64(server_seed);
     let client = words::word_64(client_seed);

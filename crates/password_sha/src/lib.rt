@@ -67,7 +67,7 @@ fn are_printable(text: &[u8]) -> bool
 pub const PASSWORD_LIMIT: usize = 128;
 
 // Whether a text is a password: 1 to 128 bytes of 20X to 7EX.
-fn is_password(text: &[u8]) -> bool
+pub fn is_password(text: &[u8]) -> bool
     ensures { λ r. ⌜ r ≡ isPassword (now (text .entry)) ⌝ }
 {
     if text.len() == 0 {

@@ -1,8 +1,8 @@
-// The tokens of a profile, lent out of the table where its record is, and whether it allows DES.
+// The tokens of a profile, lent out of the table where its record is, and its marks.
 ghost use mathlib.Core.Path.{_≡_};
 ghost use Prim.Native.Nat.{_+_, _<_};
 ghost use lib.ListN.{take, drop};
-ghost use Rattle.profile.specs.Profile.{desAllowed, storedDes, storedSha};
+ghost use Rattle.profile.specs.Profile.{enabled as isEnabled, desAllowed, storedDes, storedSha};
 ghost use Rattle.profile.specs.Table.{nameLengthAt, profileIn};
 
 // The bytes of a table from a place on, or none after its end.
@@ -43,4 +43,12 @@ pub fn des_allowed(table: &[u8], at: usize) -> bool
 {
     let flags = octets_part::byte_at(record_at(table, at), 2);
     flags / 2 % 2 == 1
+}
+
+// Whether they enable it.
+pub fn enabled(table: &[u8], at: usize) -> bool
+    ensures { λ r. ⌜ r ≡ isEnabled (profileIn (now (table .entry)) at) ⌝ }
+{
+    let flags = octets_part::byte_at(record_at(table, at), 2);
+    flags % 2 == 1
 }

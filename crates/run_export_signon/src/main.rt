@@ -1,7 +1,8 @@
-// Runs the call for C on verdicts, on the cases of standard input, one a line: a title, a colon, and in hexadecimal
-// digits a byte that says which call, and its arguments. A line of output has the title and the numbers of the answer
-// in the order of its struct. `stdin` and `stdout` were made by a Python script from the constants of
-// include/tongvelvet.h and the sign-ons of `run_signon`: every verdict. Response records are in `run_export_response`.
+// Runs the calls for C on verdicts and reasons, on the cases of standard input, one a line: a title, a colon, and in
+// hexadecimal digits a byte that says which call, and its arguments. A line of output has the title and the numbers of
+// the answer in the order of its struct. `stdin` and `stdout` were made by a Python script from the constants of
+// include/tongvelvet.h, the sign-ons of `run_signon` and those of `run_explain`: every verdict, and every reason.
+// Response records are in `run_export_response`.
 use show_case::say_values;
 
 // A sign-on: the seed has eight bytes, then the length of the table, the table and the payload.
@@ -15,12 +16,26 @@ fn judge(case: &[u8]) {
     say_values(&[v.refusal, v.verdict]);
 }
 
+fn explain(case: &[u8]) {
+    let table = octets_part::byte_at(case, 8) as usize;
+    let e = export_signon::tv_explain(
+        octets_part::part(case, 0, 8),
+        octets_part::part(case, 9, table),
+        octets_part::part(case, 9 + table, case.len()),
+    );
+    say_values(&[e.refusal, e.reason]);
+}
+
 fn run_case(case: &[u8]) {
-    judge(octets_part::part(case, 1, case.len()));
+    let rest = octets_part::part(case, 1, case.len());
+    match octets_part::byte_at(case, 0) {
+        11 => explain(rest),
+        _ => judge(rest),
+    }
 }
 
 fn run_line(line: &[u8]) {
-    let mut case = [0u8; 256];
+    let mut case = [0u8; 1280];
     let n = show_case::begin_case(line, &mut case);
     run_case(octets_part::part(&case, 0, n));
     io::write_all(1, b"\n");
@@ -35,7 +50,7 @@ fn run(text: &[u8]) {
 }
 
 fn main() {
-    let mut input = [0u8; 16384];
+    let mut input = [0u8; 32768];
     let n = io::read_full(0, &mut input);
     run(&input[..n]);
 }

@@ -7,7 +7,7 @@
 // A line is what is written first, a colon, and in hexadecimal digits the seeds of the server and of the client, how
 // many bytes the name and the password have, and the two; a password that is given short goes on with `a`. The first
 // letter says what is computed: `D` the token and the substitute by DES, `S` by SHA-1, `R` the sequence number of the
-// server's seed, `s` whether the name and the password are the same.
+// server's seed, `P` whether the password is one for SHA-1, `s` whether the name and the password are the same.
 use password_des::Block;
 use password_sha::Hash;
 
@@ -53,6 +53,14 @@ fn by_sha(name: &[u8], password: &[u8], server_seed: u64, client_seed: u64) {
     }
 }
 
+fn say_yes(yes: bool) {
+    if yes {
+        io::write_all(1, b" yes");
+        return;
+    }
+    io::write_all(1, b" no");
+}
+
 fn run_texts(letter: u8, name: &[u8], password: &[u8], server_seed: u64, client_seed: u64) {
     if letter == b'D' {
         by_des(name, password, server_seed, client_seed);
@@ -66,11 +74,11 @@ fn run_texts(letter: u8, name: &[u8], password: &[u8], server_seed: u64, client_
         say_block(Block::Value(password_des::rdr_seq(server_seed)));
         return;
     }
-    if octets::same(name, password) {
-        io::write_all(1, b" yes");
+    if letter == b'P' {
+        say_yes(password_sha::is_password(password));
         return;
     }
-    io::write_all(1, b" no");
+    say_yes(octets::same(name, password));
 }
 
 // The name begins after the seeds and the two counts.

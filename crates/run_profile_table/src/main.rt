@@ -27,6 +27,9 @@ fn say_entry(table: &[u8], entry: Entry) {
     let at = entry.at;
     say_number(b"; at ", at);
     say_bytes(&[entry.enabled as u8, entry.des_allowed as u8]);
+    if profile_tokens::enabled(table, at) != entry.enabled {
+        io::write_all(1, b" by its record otherwise");
+    }
     say_bytes(profile_tokens::des_token(table, at));
     say_bytes(profile_tokens::sha_token(table, at));
 }

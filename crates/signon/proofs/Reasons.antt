@@ -36,7 +36,7 @@ use Rattle.signon.specs.Attempt.{Attempt, attempt, isPresent, isClear, G
 use Rattle.signon.specs.Verdict.{_gives_, firstOf, grantConditions, profileConditions, conditions, verdictOf, answerBy, answerOf}
 use Rattle.signon.specs.Theorems.{Session}
 use Rattle.signon.specs.Reason.{verdictFor, Cause, _because_, firstCause, badSeedLength, badSubstituteLength, desNotAllowed, clearPasswordMalformed}
-use Rattle.signon.specs.Reason.{tokenGives, isGranted, offerCauses, causes, reasonOf, explainBy, explainOf, answerFor}
+use Rattle.signon.specs.Reason.{tokenGives, isGranted, earlyCauses, offerCauses, profileCauses, causes, reasonOf, explainBy, explainOf, answerFor}
 use Rattle.signon.specs.ReasonTheorems.{NoneHolds, IsFirst, ReasonIsFirst, SomeCauseHolds, VerdictOfItsReason, GrantedExactly, joined, WordsInOrder}
 use Rattle.signon.proofs.Rules.{clear-seed, not-yes}
 use Rattle.signon.proofs.Verdicts.{verdict-is-its-sentence}
@@ -82,6 +82,11 @@ granted [] p name server client offered = refl
 granted (rule ∷ rules) p name server client offered =
     one-more (rule p name server client offered) (oneHolds rules p name server client offered) _ (granted rules p name server client offered)
 
+-- a clear seed has a good length
+pub clear-fits : (c : List ℕ) → T (isClear c) → badSeedLength c ≡ false
+unfolding badSeedLength
+clear-fits c t = let Fits : List ℕ → Type 0 = λ l. badSeedLength l ≡ false in ⊎-elim (λ e. subst Fits (sym e) refl) (λ e. subst Fits (sym e) refl) (clear-seed c t)
+
 -- where the token gives the value, and DES is allowed for 8 bytes, a rule holds
 a-rule : (clear eight allowed byClear byDes bySha : Bool) → (not clear && (eight && not allowed)) ≡ false
     → (if clear then byClear else if eight then byDes else bySha) ≡ true
@@ -94,7 +99,7 @@ a-rule false false true byClear false bySha d e = rw e
 a-rule false false false byClear byDes bySha d e = rw e
 
 module _ (p : Profile) (name s c o : List ℕ) where
-  gives-granted : desNotAllowed p c o ≡ false → not (tokenGives p name s c o) ≡ false → oneHolds grantRules p name s c o ≡ true
+  pub gives-granted : desNotAllowed p c o ≡ false → not (tokenGives p name s c o) ≡ false → oneHolds grantRules p name s c o ≡ true
   unfolding desNotAllowed tokenGives oneHolds isClearPassword isDesSubstitute isShaSubstitute
   gives-granted d t =
       a-rule (isClear c) (eqb (length o) desLength) (desAllowed p) (givesClear (storedSha p) name o) (givesDes (storedDes p) name s c o) (givesSha (storedSha p) name s c o)
@@ -118,7 +123,7 @@ module _ (p : Profile) (name s c o : List ℕ) where
       let a = and-yes (isClear c) _ t in
       let clear = is-true (isClear c) (a .0) in
       record {
-        seed = let Fits : List ℕ → Type 0 = λ l. badSeedLength l ≡ false in ⊎-elim (λ e. subst Fits (sym e) refl) (λ e. subst Fits (sym e) refl) (clear-seed c (a .0));
+        seed = clear-fits c (a .0);
         substitute = rw clear;
         des = rw clear;
         clear = rw (clear, is-word (a .1));
@@ -198,7 +203,7 @@ offers s (present c) (present o) us p =
     granted grantRules p (valueOr [] us) s c o ∙ offer-verdict p (valueOr [] us) s c o (oneHolds grantRules p (valueOr [] us) s c o) refl
 
 verdict-at : (s : List ℕ) (cs of us : Lookup) (pr : ProfileLookup) → verdictOf (at s cs of us pr) ≡ verdictFor (reasonOf (at s cs of us pr))
-unfolding verdictOf conditions profileConditions firstOf reasonOf causes firstCause
+unfolding verdictOf conditions profileConditions firstOf reasonOf causes earlyCauses profileCauses firstCause
 verdict-at s cs of us noProfile =
     let Same : Verdict → Reason → Type 0 = λ v r. v ≡ verdictFor r in
     choice₂ Same (not (isPresent cs) && not (isPresent of)) (λ _. refl)
@@ -220,7 +225,7 @@ or-else true b f = refl
 or-else false b f = f refl
 
 some-at : (s : List ℕ) (cs of us : Lookup) (pr : ProfileLookup) → someHolds (causes (at s cs of us pr)) ≡ true
-unfolding causes offerCauses isGranted valueOr
+unfolding causes earlyCauses profileCauses offerCauses isGranted valueOr
 some-at s cs of us noProfile =
     or-else (not (isPresent cs) && not (isPresent of)) _
     (λ _. or-else (not (isPresent us)) _ (λ _. or-else (not (isName profileLimit (valueOr [] us))) _ (λ _. refl)))
@@ -306,5 +311,5 @@ granted-exactly = record {
 }
 
 pub words-in-order : WordsInOrder
-unfolding causes offerCauses joined
+unfolding causes earlyCauses profileCauses offerCauses joined
 words-in-order a = refl

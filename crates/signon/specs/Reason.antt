@@ -5,16 +5,17 @@
 -- does.
 use Prim.Native.Nat.{ℕ}
 use mathlib.Core.Bool.{Bool, true, not, _&&_, _||_}
-use mathlib.Core.List.{List, [], _∷_}
+use mathlib.Core.List.{List, [], _∷_, _++_}
 use lib.Dec.{eqb}
 use lib.ListN.{length}
 use Rattle.octets.specs.Ascii.{ascii}
 use Rattle.octets.specs.Choice.{if_then_else_}
 use Rattle.refusal.specs.Refusal.{badServerSeed}
-use Rattle.env.specs.Variable.{valueOr}
+use Rattle.env.specs.Variable.{present, valueOr}
 use Rattle.env.specs.Read.{Reading, says, notRead, readingOf}
 use Rattle.names.specs.Name.{isName, profileLimit}
 use Rattle.profile.specs.Profile.{Profile, enabled, desAllowed, storedDes, storedSha}
+use Rattle.profile.specs.Lookup.{oneProfile}
 use Rattle.profile.specs.Table.{TableReading, profiles, tableRefused, tableOf}
 use Rattle.password_sha.specs.Sha.{isPassword}
 use Rattle.password_check.specs.Gives.{desLength, shaLength, seedLength, givesClear, givesDes, givesSha}
@@ -116,7 +117,15 @@ isGranted a =
     isPresent (a .clientSeed) && isPresent (a .offered)
     && ofProfile (λ p. oneHolds grantRules p (userIn a) (a .serverSeed) (seedIn a) (offerIn a)) (a .profile)
 
--- the reasons that what is offered may give
+-- the reasons that need no profile
+unfoldable pub earlyCauses : Attempt → List Cause
+earlyCauses a =
+    (not (isPresent (a .clientSeed)) && not (isPresent (a .offered)) because PanelAskedFor)
+    ∷ (not (isPresent (a .user)) because NoUser)
+    ∷ (not (isName profileLimit (userIn a)) because BadName)
+    ∷ []
+
+-- those that what is offered may give
 unfoldable pub offerCauses : Attempt → List Cause
 offerCauses a =
     (not (isPresent (a .clientSeed)) because SeedVariableMissing)
@@ -129,15 +138,21 @@ offerCauses a =
     ∷ (isGranted a because Granted)
     ∷ []
 
+-- those that a profile may give, once it is found
+unfoldable pub profileCauses : Attempt → List Cause
+profileCauses a = (ofProfile (λ p. not (enabled p)) (a .profile) because Disabled) ∷ offerCauses a
+
 -- all of them, in the request's order
 unfoldable pub causes : Attempt → List Cause
-causes a =
-    (not (isPresent (a .clientSeed)) && not (isPresent (a .offered)) because PanelAskedFor)
-    ∷ (not (isPresent (a .user)) because NoUser)
-    ∷ (not (isName profileLimit (userIn a)) because BadName)
-    ∷ (not (ofProfile (λ p. true) (a .profile)) because NotInTheTable)
-    ∷ (ofProfile (λ p. not (enabled p)) (a .profile) because Disabled)
-    ∷ offerCauses a
+causes a = earlyCauses a ++ (not (ofProfile (λ p. true) (a .profile)) because NotInTheTable) ∷ profileCauses a
+
+-- the reason that a found profile, a user's name, both seeds and what is offered give
+unfoldable pub reasonOffered : Profile → (name serverSeed clientSeed offered : List ℕ) → Reason
+reasonOffered p name serverSeed clientSeed offered =
+    firstCause
+    (offerCauses
+    (record { serverSeed = serverSeed; clientSeed = present clientSeed; offered = present offered; user = present name; profile = oneProfile p }))
+    TokenDiffers
 
 -- the reason; one of them always holds, so none else is ever given
 unfoldable pub reasonOf : Attempt → Reason

@@ -12,11 +12,9 @@ use borrow.Author.Tests.{lt-ltb, le-ltb}
 use Rattle.octets.specs.Ascii.{ascii}
 use Rattle.octets.specs.Bytes.{Bytes}
 use Rattle.octets.specs.Decimal.{decimal}
-use Rattle.octets.specs.Lent.{Outcome, outcome}
 use Rattle.octets.proofs.Choice.{choice}
 use Rattle.octets.proofs.Decimal.{length-decimal-short, length-decimal-lt}
 use Rattle.octets.proofs.Order.{below-or-above}
-use Rattle.octets.proofs.Overwrite.{overwrite-front}
 use Rattle.telnet.specs.declared.Verb.{Verb}
 use Rattle.telnet.specs.declared.Verb.the-variants.{Will, Wont, Do, Dont}
 use Rattle.telnet.specs.declared.Lead.{Lead}
@@ -30,7 +28,7 @@ use Rattle.telnet.proofs.Stretch.{doubled-longer}
 use Rattle.telnet_reader.proofs.Carried.{Carries, none, not-found, carries, event-carries}
 use Rattle.telnet_line.specs.Line.{said, verbName, commandText, text, endingText, answerText, line}
 use Rattle.telnet_listing.specs.Listing.{listing}
-use Rattle.telnet_listing.specs.Printed.{limit, printed, atFront, room, Fits}
+use Rattle.telnet_listing.specs.Printed.{limit, printed, room, Fits}
 use Rattle.telnet_listing.proofs.Lines.{linesAt, lines-all, after, turn-length}
 
 -- a run has data, and the number that another event names is a byte
@@ -155,10 +153,3 @@ fits bs g =
     ⊎-elim (λ h. omega (arith, ap length (printed-long bs h)))
     (λ h. omega (arith, ap length (printed-listed bs h), ap length (lines-all bs), lines-short bs g h (length bs) 0 (omega arith) (omega arith)))
     (below-or-above limit (length bs))
-
--- what was put to the front of a buffer lies within it
-pub front-within : {r : ℕ} {l : List ℕ} (x b : List ℕ) → outcome r l ≡ atFront x b → r ≤ length l
-front-within x b e =
-    let n = ap (λ (o : Outcome ℕ). o .answer) e in
-    let k = ap length (ap (λ (o : Outcome ℕ). o .lent) e ∙ overwrite-front b x) in
-    omega (arith, n, k, length-append x (drop (length x) b))

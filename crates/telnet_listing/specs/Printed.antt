@@ -7,7 +7,6 @@ use lib.ListN.{length}
 use Rattle.octets.specs.Ascii.{ascii}
 use Rattle.octets.specs.Bytes.{Bytes}
 use Rattle.octets.specs.Choice.{if_then_else_}
-use Rattle.octets.specs.Lent.{Outcome, outcome, overwrite}
 use Rattle.telnet_listing.specs.Listing.{listing}
 
 -- how many bytes may come
@@ -26,7 +25,3 @@ room = 13 * limit + 16
 -- What is printed for bytes fits that room.
 abbrev pub Fits : Type 0
 Fits = (bs : List ℕ) → Bytes bs → length (printed bs) ≤ room
-
--- a text put to the front of a buffer, and its length
-abbrev pub atFront : (words buffer : List ℕ) → Outcome ℕ
-atFront words buffer = outcome (length words) (overwrite buffer 0 words)

@@ -3,10 +3,10 @@
 ghost use mathlib.Core.Path.{_≡_};
 ghost use Prim.Native.Nat.{_≤_};
 ghost use lib.ListN.{length};
-ghost use Rattle.octets.specs.Lent.{outcome};
+ghost use Rattle.octets.specs.Lent.{outcome, atFront};
 ghost use Rattle.refusal.specs.Written.{writtenInto};
 ghost use Rattle.telnet_listing.specs.Listing.{listing};
-ghost use Rattle.telnet_listing.specs.Printed.{printed, atFront};
+ghost use Rattle.telnet_listing.specs.Printed.{printed};
 ghost use Rattle.telnet_listing.specs.internal.Sized.{sized};
 use refusal::Written;
 use telnet_reader::Answer;

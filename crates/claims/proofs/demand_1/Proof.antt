@@ -3,7 +3,7 @@
 use Rattle.claims.proofs.LineRefusals.{looks, reads, reads-records, writes, lists, receives, requests}
 use Rattle.claims.proofs.SessionRefusals.{session-receives, session-requests, line-receives, line-requests, line-hears}
 use Rattle.claims.proofs.PayloadRefusals.{reads-payloads, reads-lists, writes-payloads, reads-variables, delivers, hands-over}
-use Rattle.claims.proofs.SignonRefusals.{checks, finds, makes, des-tokens, sha-tokens, des-substitutes, sha-substitutes, judges, responds, reads-frames, takes, completes}
+use Rattle.claims.proofs.SignonRefusals.{checks, finds, makes, des-tokens, sha-tokens, des-substitutes, sha-substitutes, judges, explains, responds, reads-frames, takes, completes}
 use Rattle.claims.proofs.demand_1.Statement.{statement}
 use Rattle.claims.proofs.demand_1.Tie as tie
 
@@ -35,6 +35,7 @@ returns c = record {
   desSubstitute = des-substitutes;
   shaSubstitute = sha-substitutes;
   verdict = judges;
+  explain = explains;
   response = responds;
   readFrame = reads-frames;
   takeFrame = takes;

@@ -1,7 +1,7 @@
 -- `run_listing::show` is safe: what is printed lies within the buffer. Assumes nothing.
 use mathlib.Core.Path.{sym}
 use lib.Seq.{length-take-le}
-use Rattle.telnet_listing.proofs.Room.{front-within}
+use Rattle.octets.proofs.Promise.{front-within}
 use borrow.Author.Needs.{needs}
 use Rattle.run_listing.proofs.show.Statement.{statement}
 use Rattle.run_listing.proofs.show.Tie as tie

@@ -1,109 +1,47 @@
--- `signon_verdict::verdict` meets its contract: 35, then the table, then the payload. Assumes nothing.
-use mathlib.Core.Path.{_≡_, _∙_}
-use Prim.Native.Nat.{_*_, _≤_}
-use native.Mathlib.Omega.{arith}
-use native.Mathlib.Nat.{sub-zero}
-use borrow.Author.Tests.{eq-eqb, ne-eqb}
-use lib.ListN.{length}
-use Rattle.env.specs.Read.{notRead, readingOf}
-use Rattle.profile.specs.Table.{tableOf}
-use Rattle.password_check.specs.Gives.{seedLength}
+-- `signon_verdict::verdict` meets its contract: the verdict is that of the reason. Assumes nothing.
+use mathlib.Core.Path.{_≡_, sym, ap, _∙_}
+use Rattle.signon.specs.declared.Answer.the-variants.{Given}
+use Rattle.signon.specs.declared.Explained.{Explained}
 use Rattle.signon.specs.Verdict.{answerOf}
-use Rattle.signon_verdict.proofs.Deciding.{any-first}
-use Rattle.signon_verdict.proofs.Payloads.{within, said}
+use Rattle.signon.specs.Reason.{answerFor}
+use Rattle.signon.proofs.Reasons.{verdict-of-its-reason}
 use borrow.Author.Needs.{needs}
 use Rattle.signon_verdict.proofs.verdict.Statement.{statement}
 use Rattle.signon_verdict.proofs.verdict.Tie as tie
 
-returns : tie.Need-returns
-unfolding answerOf
-returns c = rw (ne-eqb (length (c .before .before .before .before .args .server-seed .now)) seedLength (c .if1 .taken))
+-- the answer, by the explanation
+by-reason : (c : tie.After-explain) (x : Explained) → c .explain .result ≡ x
+    → let a = c .before .before .before .before .args in
+    answerFor x ≡ answerOf (a .server-seed .now) (a .table .now) (a .payload .now)
+by-reason c x told =
+    let a = c .before .before .before .before .args in
+    ap answerFor (sym told ∙ c .explain .ensures) ∙ sym (verdict-of-its-reason (a .server-seed .now) (a .table .now) (a .payload .now))
 
-slice-aggregate-read : tie.Need-slice-aggregate-read
-slice-aggregate-read c = search needs
+explain-requires : tie.Need-explain-requires
+explain-requires c κs = search needs
 
-slice-aggregate-read-2 : tie.Need-slice-aggregate-read-2
-slice-aggregate-read-2 c = search needs
+enum-known-reason : tie.Need-enum-known-reason
+enum-known-reason c = search needs
 
-read-requires : tie.Need-read-requires
-read-requires c κs = search needs
+verdict-for-requires : tie.Need-verdict-for-requires
+verdict-for-requires c κs = search needs
 
 enum-known-number : tie.Need-enum-known-number
 enum-known-number c = search needs
 
-refuse-requires : tie.Need-refuse-requires
-refuse-requires c κs = search needs
-
-enum-known-count : tie.Need-enum-known-count
-enum-known-count c = search needs
-
-sub-decide : tie.Need-sub-decide
-sub-decide c = search needs
-
-part-decide-start : tie.Need-part-decide-start
-part-decide-start c = search needs
-
--- what was read lies within the room
-room : (c : tie.After-count) → (c .count .given .0 .1 .1 .0 ≤ 1024) × (5 * c .count .given .0 .1 .0 ≤ 320)
-room c =
-    let r = c .before .before .before .before .read in
-    within (c .before .before .before .before .before .before .before .before .before .before .before .args .payload .now) (r .result) (r .last .1 .0) (r .last .1 .1 .0) (r .ensures) _ (c .count .given .1)
-
-part-decide-end : tie.Need-part-decide-end
-part-decide-end c = let w = room (c .before .before) in omega arith
-
-mul-decide : tie.Need-mul-decide
-mul-decide c = let w = room (c .before .before .before) in omega arith
-
-sub-decide-2 : tie.Need-sub-decide-2
-sub-decide-2 c = search needs
-
-part-decide-start-2 : tie.Need-part-decide-start-2
-part-decide-start-2 c = search needs
-
-part-decide-end-2 : tie.Need-part-decide-end-2
-part-decide-end-2 c = let w = room (c .before .before .before .before) in omega arith
-
-decide-requires : tie.Need-decide-requires
-decide-requires c κs = search needs
+returns : tie.Need-returns
+returns c = ap Given (c .verdict-for .ensures) ∙ by-reason (c .before .before .before .before) _ (c .before .before .reason .given .1)
 
 returns-2 : tie.Need-returns-2
-unfolding answerOf
-returns-2 c =
-    let a = c .before .before .before .before .before .before .before .before .before .before .before .before .before .args in
-    let r = c .before .before .before .before .before .before .read in
-    let refused : readingOf (a .payload .now) ≡ notRead (c .before .before .number .given .0 .0) =
-    within (a .payload .now) (r .result) (r .last .1 .0) (r .last .1 .1 .0) (r .ensures) _ (c .before .before .number .given .1) in
-    rw (eq-eqb (length (a .server-seed .now)) seedLength (omega arith), refused) (c .refuse .ensures (a .server-seed .now))
-
-returns-3 : tie.Need-returns-3
-unfolding answerOf
-returns-3 c =
-    let a = c .before .before .before .before .before .before .before .before .before .before .before .before .before .before .before .before .before .args in
-    let r = c .before .before .before .before .before .before .before .before .before .before .read in
-    let k = c .before .before .before .before .before .before .count .given in
-    let read = said (a .payload .now) (r .result) (r .last .1 .0) (r .last .1 .1 .0) (r .ensures) (k .0 .0) (k .0 .1 .0) (k .0 .1 .1 .0) (k .1) in
-    rw (eq-eqb (length (a .server-seed .now)) seedLength (omega arith), read)
-    ((rw (sub-zero, sub-zero) at (c .decide .ensures)) ∙ any-first (a .server-seed .now) (tableOf (a .table .now)) (k .0 .0) _)
+returns-2 c = by-reason (c .before .before .before) _ (c .before .number .given .1)
 
 pub verdict-spec : {M : Type 1} → statement M
 verdict-spec =
     tie.close
     (tie.spec
-    returns
-    slice-aggregate-read
-    slice-aggregate-read-2
-    read-requires
+    explain-requires
+    enum-known-reason
+    verdict-for-requires
     enum-known-number
-    refuse-requires
-    enum-known-count
-    sub-decide
-    part-decide-start
-    part-decide-end
-    mul-decide
-    sub-decide-2
-    part-decide-start-2
-    part-decide-end-2
-    decide-requires
-    returns-2
-    returns-3)
+    returns
+    returns-2)

@@ -4,9 +4,8 @@ use mathlib.Core.Path.{sym, ap, ap₂, _∙_}
 use native.Mathlib.Omega.{arith}
 use lib.ListN.{length}
 use Rattle.octets.specs.Ascii.{ascii}
-use Rattle.octets.specs.Lent.{outcome, overwrite}
+use Rattle.octets.specs.Lent.{outcome, overwrite, atFront}
 use Rattle.octets.proofs.Promise.{put-whole}
-use Rattle.telnet_listing.specs.Printed.{atFront}
 use Rattle.telnet_listing.proofs.Room.{printed-long, printed-listed, fits}
 use borrow.Author.Needs.{needs}
 use Rattle.telnet_listing.proofs.print.Statement.{statement}
