@@ -871,7 +871,10 @@ static void spoil(struct said *s)
 	switch (below(12)) {
 	case 0: s->has_user = false; break;
 	case 1: s->user_length = one_in(2) ? 0 : 11; break;
-	case 2: s->user_length = 6, memcpy(s->user, "NOBODY", 6); break;
+	case 2:
+		s->user_length = 6;
+		memcpy(s->user, "NOBODY", 6);
+		break;
 	case 3: s->has_seed = false; break;
 	case 4: s->has_offer = false; break;
 	case 5: s->has_seed = s->has_offer = false; break;

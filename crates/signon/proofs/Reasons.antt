@@ -3,17 +3,17 @@
 use mathlib.Core.Path.{_≡_, refl, sym, ap, subst, _∙_}
 use mathlib.Core.Bool.{Bool, true, false, not, _&&_, _||_}
 use mathlib.Core.List.{List, [], _∷_, _++_, map}
-use mathlib.Core.Logic.{_↔_, _⊎_, inl, inr, ⊎-elim}
+use mathlib.Core.Logic.{_↔_, _⊎_, ⊎-elim}
 use Prim.Native.Nat.{ℕ}
 use native.Mathlib.Omega.{arith}
 use lib.Dec.{T, eqb}
 use lib.ListN.{length}
 use mir.Facts.{and-yes, or-yes}
 use denote.Floats.{passes, is-true}
-use borrow.Author.Tests.{eq-eqb, not-true, not-false}
+use borrow.Author.Tests.{eq-eqb, not-false}
 use Rattle.octets.specs.Choice.{if_then_else_}
 use Rattle.octets.proofs.Choice.{choice, choice₂}
-use Rattle.env.specs.Variable.{Variable, Lookup, absent, present, valueOr}
+use Rattle.env.specs.Variable.{Lookup, absent, present, valueOr}
 use Rattle.env.specs.Read.{Reading, says, notRead, readingOf}
 use Rattle.names.specs.Name.{isName, profileLimit}
 use Rattle.profile.specs.Profile.{Profile, enabled, desAllowed, storedDes, storedSha}
@@ -24,8 +24,7 @@ use Rattle.password_check.specs.Gives.{desLength, seedLength, givesClear, gives
 use Rattle.password_check.proofs.Own.{only-its-lengths}
 use Rattle.signon.specs.declared.Verdict.{Verdict}
 use Rattle.signon.specs.declared.Verdict.the-variants.{Failed, Grant}
-use Rattle.signon.specs.declared.Answer.{Answer}
-use Rattle.signon.specs.declared.Answer.the-variants.{Given, Refused as NotGiven}
+use Rattle.signon.specs.declared.Answer.the-variants.{Given}
 use Rattle.signon.specs.declared.Reason.{Reason}
 use Rattle.signon.specs.declared.Reason.the-variants.{PanelAskedFor, NoUser, BadName, NotInTheTable, Disabled, SeedVariableMissing}
 use Rattle.signon.specs.declared.Reason.the-variants.{SubstituteMissing, SeedLength, SubstituteLength, DesNotAllowed}
@@ -34,7 +33,6 @@ use Rattle.signon.specs.declared.Explained.{Explained}
 use Rattle.signon.specs.declared.Explained.the-variants.{Because, Refused}
 use Rattle.signon.specs.Attempt.{Attempt, attempt, isPresent, isClear, GrantRule, grantRules, oneHolds, isClearPassword, isDesSubstitute, isShaSubstitute}
 use Rattle.signon.specs.Verdict.{_gives_, firstOf, grantConditions, profileConditions, conditions, verdictOf, answerBy, answerOf}
-use Rattle.signon.specs.Theorems.{Session}
 use Rattle.signon.specs.Reason.{verdictFor, Cause, _because_, firstCause, badSeedLength, badSubstituteLength, desNotAllowed, clearPasswordMalformed}
 use Rattle.signon.specs.Reason.{tokenGives, isGranted, earlyCauses, offerCauses, profileCauses, causes, reasonOf, explainBy, explainOf, answerFor}
 use Rattle.signon.specs.ReasonTheorems.{NoneHolds, IsFirst, ReasonIsFirst, SomeCauseHolds, VerdictOfItsReason, GrantedExactly, joined, WordsInOrder}

@@ -1,11 +1,11 @@
 -- What each test of the code says of the reason, and that the two parts make the whole. Assumes nothing.
 use mathlib.Core.Path.{_≡_, refl, sym, ap, _∙_}
-use mathlib.Core.Bool.{Bool, true, false, not}
-use mathlib.Core.List.{List, []}
+use mathlib.Core.Bool.{true, false, not}
+use mathlib.Core.List.{List}
 use Prim.Native.Nat.{ℕ}
 use Rattle.octets.specs.Choice.{if_then_else_}
 use Rattle.octets.proofs.Choice.{choice₂}
-use Rattle.env.specs.Variable.{Variable, VAR, USERVAR, Lookup, absent, present, lookup, valueOr}
+use Rattle.env.specs.Variable.{Variable, lookup, valueOr}
 use Rattle.env.specs.Numbers.{variablesHeld}
 use Rattle.env_search.specs.declared.ValuePlace.{ValuePlace}
 use Rattle.env_search.specs.Places.{placeOf}
@@ -15,8 +15,8 @@ use Rattle.names.specs.Name.{isName, profileLimit}
 use Rattle.profile.specs.Profile.{Profile, enabled}
 use Rattle.profile.specs.Lookup.{ProfileLookup, noProfile, oneProfile}
 use Rattle.signon.specs.declared.Reason.{Reason}
-use Rattle.signon.specs.declared.Reason.the-variants.{Disabled, SeedVariableMissing, SubstituteMissing, TokenDiffers}
-use Rattle.signon.specs.Attempt.{USER, IBMRSEED, IBMSUBSPW, attemptBy, isPresent}
+use Rattle.signon.specs.declared.Reason.the-variants.{Disabled, SeedVariableMissing, SubstituteMissing}
+use Rattle.signon.specs.Attempt.{attemptBy, isPresent}
 use Rattle.signon.specs.Reason.{firstCause, earlyCauses, offerCauses, profileCauses, causes, reasonOf, reasonOffered, isGranted}
 use Rattle.signon_attempt.specs.declared.Early.{Early}
 use Rattle.signon_attempt.specs.Parts.{userOf, firstEarly, earlyOf, reasonFound, wholeOf}

@@ -1,13 +1,12 @@
 -- The reason by the code's tests: a clear seed, the lengths, and the offer against the token that it calls for. Assumes
 -- nothing.
 use mathlib.Core.Path.{_≡_, refl, sym, ap, _∙_}
-use mathlib.Core.Bool.{Bool, true, false, not, _&&_, _||_}
+use mathlib.Core.Bool.{Bool, true, false, not}
 use mathlib.Core.List.{List, [], _∷_}
 use Prim.Native.Nat.{ℕ, _<_}
 use native.Mathlib.Omega.{arith}
 use borrow.Author.Tests.{ne-eqb}
 use denote.Floats.{passes}
-use lib.Dec.{eqb}
 use lib.ListN.{length, replicate}
 use Rattle.octets.specs.Choice.{if_then_else_}
 use Rattle.octets.specs.Same.{same}

@@ -1,6 +1,6 @@
 -- What is printed fits the room (`fits`, the theorem `Printed.Fits`): line by line, against the bytes of each event.
 -- `printed` in its two cases. Assumes nothing.
-use mathlib.Core.Path.{_≡_, refl, sym, ap, _∙_}
+use mathlib.Core.Path.{_≡_, refl, sym, ap}
 use mathlib.Core.List.{List, [], _∷_}
 use mathlib.Core.Logic.{⊎-elim}
 use Prim.Native.Nat.{ℕ, zero, suc, _+_, _*_, _≤_, _<_}
@@ -28,7 +28,7 @@ use Rattle.telnet.proofs.Stretch.{doubled-longer}
 use Rattle.telnet_reader.proofs.Carried.{Carries, none, not-found, carries, event-carries}
 use Rattle.telnet_line.specs.Line.{said, verbName, commandText, text, endingText, answerText, line}
 use Rattle.telnet_listing.specs.Listing.{listing}
-use Rattle.telnet_listing.specs.Printed.{limit, printed, room, Fits}
+use Rattle.telnet_listing.specs.Printed.{limit, printed, Fits}
 use Rattle.telnet_listing.proofs.Lines.{linesAt, lines-all, after, turn-length}
 
 -- a run has data, and the number that another event names is a byte

@@ -1,9 +1,7 @@
 -- `signon_offer::offer_reason` meets its contract. Assumes nothing.
-use mathlib.Core.Path.{_≡_, sym, _∙_}
-use mathlib.Core.Bool.{true, false}
+use mathlib.Core.Path.{sym, _∙_}
 use native.Mathlib.Omega.{arith}
 use Rattle.profile.specs.Table.{profileIn}
-use Rattle.signon.specs.Attempt.{isClear}
 use Rattle.signon_offer.proofs.Rules.{clear-offer, seed-length, des-offer, sha-offer, substitute-length}
 use borrow.Author.Needs.{needs}
 use Rattle.signon_offer.proofs.offer_reason.Statement.{statement}

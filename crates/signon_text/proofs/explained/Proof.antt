@@ -1,5 +1,4 @@
 -- `signon_text::explained` meets its contract. Assumes nothing.
-use mathlib.Core.Path.{_∙_}
 use Rattle.octets.specs.Part.{part}
 use borrow.Author.Needs.{needs}
 use Rattle.signon_text.proofs.explained.Statement.{statement}
