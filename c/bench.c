@@ -30,7 +30,8 @@ SKIP(SHIFT);
 #define ORDER 300
 
 static uint8_t order[ORDER], stream[ORDERS * (2 * ORDER + 2)], wide[sizeof stream], out[2048], back[2048], bytes[1024], digest[TV_SHA_LENGTH];
-static size_t stream_length, out_length, records, carried, numbers[TV_ENV_NUMBERS * TV_ENV_VARIABLES];
+static uint8_t kept[TV_PAYLOAD_LIMIT];
+static size_t stream_length, fragment, out_length, records, carried, numbers[TV_ENV_NUMBERS * TV_ENV_VARIABLES];
 static uint64_t block;
 
 static const uint8_t name[] = "USER123", password[] = "ABCDEFG", phrase[] = "AbCdEfGh123?+";
@@ -99,6 +100,26 @@ static void read_records_into(uint8_t *to, size_t room)
 static void our_read(void)
 {
 	read_into(out, sizeof out);
+}
+
+/* The stream in fragments. The room is read by nobody here, but it is no local array: its bytes are written. */
+static void our_feed(void)
+{
+	tv_reader_t reader = tv_reader_fresh();
+	size_t at = 0;
+
+	records = carried = 0;
+	while (at < stream_length) {
+		size_t end = stream_length - at < fragment ? stream_length : at + fragment;
+		while (at < end) {
+			tv_fed_t f = tv_reader_feed(reader, kept, stream + at, end - at, out, sizeof out);
+			must(!f.number, "the reader refuses");
+			reader = f.reader;
+			at += f.taken;
+			carried += f.length;
+			records += f.code == TV_EOR;
+		}
+	}
 }
 
 static void our_read_wide(void)
@@ -195,6 +216,14 @@ static void peer_receive(bool copying)
 	telnet_recv(telnet, (const char *)stream, stream_length);
 }
 
+static void peer_feed(void)
+{
+	copies = true;
+	filled = records = carried = 0;
+	for (size_t at = 0; at < stream_length; at += fragment)
+		telnet_recv(telnet, (const char *)stream + at, stream_length - at < fragment ? stream_length - at : fragment);
+}
+
 static void peer_look(void)
 {
 	peer_receive(false);
@@ -219,6 +248,7 @@ static void peer_payload(void)
 	telnet_recv(telnet, (const char *)out, out_length);
 }
 #else
+#define peer_feed NULL
 #define peer_look NULL
 #define peer_read NULL
 #define peer_write NULL
@@ -383,6 +413,14 @@ static void agree_on_the_line(void)
 	peer_payload();
 	must(carried == 5, "libtelnet reads other variables");
 #endif
+	for (fragment = 1; fragment < 2000; fragment = 3 * fragment + 1) {
+		our_feed();
+		must(records == ORDERS && carried == ORDERS * ORDER, "other events are read in fragments");
+#ifdef WITH_LIBTELNET
+		peer_feed();
+		must(records == ORDERS && carried == ORDERS * ORDER, "libtelnet reads other events in fragments");
+#endif
+	}
 	our_read_record();
 	must(records == ORDERS && carried == ORDERS * ORDER && !memcmp(out, order, ORDER), "other records are read");
 	our_read_record_wide();
@@ -417,6 +455,20 @@ static void agree_on_tokens(void)
 #endif
 }
 
+/* The rows of the reader: by the byte, and at one byte a fragment also by the call, which is then the same number. */
+static void compare_fragments(void)
+{
+	static const size_t sizes[] = {1024, 300, 20, 1};
+	static const char *const names[] = {"tv_reader_feed, fragments of 1,024", "tv_reader_feed, fragments of 300",
+			"tv_reader_feed, fragments of 20", "tv_reader_feed, fragments of 1"};
+	static const char *const peers[] = {"telnet_recv of 1,024", "telnet_recv of 300", "telnet_recv of 20", "telnet_recv of 1"};
+
+	for (size_t i = 0; i < sizeof sizes / sizeof *sizes; i++) {
+		fragment = sizes[i];
+		compare(names[i], our_feed, peers[i], peer_feed, stream_length);
+	}
+}
+
 int main(void)
 {
 	fill_stream();
@@ -424,6 +476,7 @@ int main(void)
 	agree_on_tokens();
 	puts("| Ours | time | Peer | time | our speed by the peer's |");
 	puts("|---|---|---|---|---|");
+	compare_fragments();
 	compare("tv_look", our_look, "telnet_recv, counted", peer_look, stream_length);
 	compare("tv_read, room for the stream", our_read_wide, "telnet_recv, copied", peer_read, stream_length);
 	compare("tv_read, room of 2,048 bytes", our_read, "telnet_recv, copied", peer_read, stream_length);

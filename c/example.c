@@ -1,11 +1,14 @@
 /*
  * The start of a printer session over a socket pair, both ends in one process,
- * through tongvelvet.h alone. It prints the lines of the program
- * run_printer_start: for each event who sends it, the line that the listing
- * has for it, and what it means to the end that reads it.
+ * through tongvelvet.h alone. Each end reads its socket through a reader, in
+ * fragments of as many bytes as the argument says, or of all that have come.
+ * It prints the lines of the program run_printer_start: for each event who
+ * sends it, the line that the listing has for it, and what it means to the end
+ * that reads it.
  */
 #include "tongvelvet.h"
 
+#include <errno.h>
 #include <stdio.h>
 #include <stdlib.h>
 #include <string.h>
@@ -21,10 +24,24 @@ struct end {
 	tv_sides_t sides;
 	uint8_t sent[ROOM];
 	size_t sent_length;
-	uint8_t heard[ROOM];
-	size_t heard_length;
-	size_t at; /* the place of the next event that it hears */
+	/* the bytes that came last, and how many of them are taken */
+	uint8_t fragment[ROOM];
+	size_t fragment_length, taken;
+	tv_reader_t reader;
+	uint8_t kept[TV_PAYLOAD_LIMIT];
+	/* the data of the record that is being read */
+	uint8_t record[ROOM];
+	size_t record_length;
+	/* the payload that was read last */
+	uint8_t payload[TV_PAYLOAD_LIMIT];
+	size_t payload_length;
+	/* option commands that are not answered yet, each a code and an option */
+	uint8_t commands[16][2];
+	size_t commands_length;
 };
+
+/* How many bytes a read takes at most. */
+static size_t cut = ROOM;
 
 static void die(const char *what, unsigned number)
 {
@@ -89,14 +106,53 @@ static void send_event(struct end *e, uint8_t what, uint8_t code, uint8_t option
 	send_up_to(e, at + w.length);
 }
 
-/* Takes what has come from the socket. */
-static void hear(struct end *e)
+/* Reads from the socket: whether anything has come. */
+static bool receive(struct end *e)
 {
-	ssize_t n = read(e->socket, e->heard + e->heard_length, ROOM - e->heard_length);
+	ssize_t n = recv(e->socket, e->fragment, cut, MSG_DONTWAIT);
 
-	if (n < 0)
+	if (n == 0 || (n < 0 && errno != EAGAIN))
 		die("socket", 0);
-	e->heard_length += (size_t)n;
+	e->fragment_length = n < 0 ? 0 : (size_t)n;
+	e->taken = 0;
+	return n > 0;
+}
+
+/*
+ * Takes what has come up to a subnegotiation, TV_SUBNEGOTIATION, or the end of
+ * a record, TV_COMMAND; TV_END where neither has come yet. Option commands on
+ * the way are noted, to be answered.
+ */
+static uint8_t hear(struct end *e)
+{
+	uint8_t room[TV_READER_ROOM];
+
+	while (e->taken < e->fragment_length || receive(e)) {
+		tv_fed_t fed = tv_reader_feed(e->reader, e->kept, e->fragment + e->taken, e->fragment_length - e->taken,
+				room, sizeof room);
+
+		if (fed.number)
+			die("line", fed.number);
+		e->reader = fed.reader;
+		e->taken += fed.taken;
+		if (fed.length > ROOM - e->record_length)
+			die("record", 0);
+		memcpy(e->record + e->record_length, room, fed.length);
+		e->record_length += fed.length;
+		if (fed.what == TV_NEGOTIATION) {
+			if (e->commands_length == sizeof e->commands / sizeof *e->commands)
+				die("option commands", 0);
+			e->commands[e->commands_length][0] = fed.code;
+			e->commands[e->commands_length++][1] = fed.option;
+		} else if (fed.what == TV_SUBNEGOTIATION) {
+			memcpy(e->payload, room + fed.length, fed.payload);
+			e->payload_length = fed.payload;
+			return TV_SUBNEGOTIATION;
+		} else if (fed.what == TV_COMMAND && fed.code == TV_EOR) {
+			return TV_COMMAND;
+		}
+	}
+	return TV_END;
 }
 
 /* The sides after a call, and the command that it put on the line, if any. */
@@ -108,19 +164,12 @@ static void step(struct end *e, tv_sent_t sent)
 	send_up_to(e, sent.place);
 }
 
-/* Answers the option commands from an end's place on, up to another event. */
+/* Answers the option commands that were noted. */
 static void answer(struct end *e)
 {
-	for (;;) {
-		tv_event_t event = tv_look(e->heard, e->heard_length, e->at);
-
-		if (event.refusal)
-			die("look", event.refusal);
-		if (event.what != TV_NEGOTIATION)
-			return;
-		step(e, tv_option_hear(e->sides, e->heard, e->heard_length, e->at, true, e->sent, ROOM, e->sent_length));
-		e->at = event.next;
-	}
+	for (size_t i = 0; i < e->commands_length; i++)
+		step(e, tv_option_receive(e->sides, e->commands[i][0], e->commands[i][1], true, e->sent, ROOM, e->sent_length));
+	e->commands_length = 0;
 }
 
 static void ask(struct end *e, bool ours, uint8_t option)
@@ -138,9 +187,11 @@ static void negotiate(struct end *host, struct end *printer)
 	ask(host, true, TV_OPTION_END_OF_RECORD);
 	ask(host, false, TV_OPTION_BINARY);
 	ask(host, true, TV_OPTION_BINARY);
-	hear(printer);
+	if (hear(printer) != TV_END)
+		die("options", 0);
 	answer(printer);
-	hear(host);
+	if (hear(host) != TV_END)
+		die("options", 0);
 	answer(host);
 	s = host->sides;
 	if (s.environ.other != TV_SIDE_ON || s.terminal.other != TV_SIDE_ON
@@ -189,19 +240,16 @@ static void ask_environment(struct end *host)
 /* The printer takes the seed from what it is asked. */
 static uint64_t hear_seed(struct end *printer)
 {
-	uint8_t payload[TV_PAYLOAD_LIMIT], seed[TV_SEED_LENGTH];
-	tv_event_t event;
+	const uint8_t *payload = printer->payload;
+	uint8_t seed[TV_SEED_LENGTH];
 	size_t at = 10;
 
-	hear(printer);
-	event = tv_read(printer->heard, printer->heard_length, printer->at, payload, sizeof payload);
-	if (event.refusal || event.what != TV_SUBNEGOTIATION || event.length < 10 || memcmp(payload + 2, "IBMRSEED", 8))
-		die("seed", event.refusal);
-	printer->at = event.next;
+	if (hear(printer) != TV_SUBNEGOTIATION || printer->payload_length < 10 || memcmp(payload + 2, "IBMRSEED", 8))
+		die("seed", 0);
 	for (size_t i = 0; i < TV_SEED_LENGTH; i++) {
-		if (at < event.length && payload[at] == TV_ENV_ESC)
+		if (at < printer->payload_length && payload[at] == TV_ENV_ESC)
 			at++;
-		if (at >= event.length)
+		if (at >= printer->payload_length)
 			die("seed", 0);
 		seed[i] = payload[at++];
 	}
@@ -243,39 +291,33 @@ static const char *verdict_name(uint8_t verdict)
 
 static uint8_t sign_on(struct end *host, struct end *printer, const uint8_t *table, size_t table_length)
 {
-	uint8_t payload[TV_PAYLOAD_LIMIT];
-	tv_event_t event;
 	tv_judged_t v;
 
 	ask_environment(host);
 	tell_environment(printer, hear_seed(printer));
-	hear(host);
-	event = tv_read(host->heard, host->heard_length, host->at, payload, sizeof payload);
-	if (event.refusal || event.what != TV_SUBNEGOTIATION)
-		die("payload", event.refusal);
-	host->at = event.next;
-	v = tv_verdict(server_seed, sizeof server_seed, table, table_length, payload, event.length);
+	if (hear(host) != TV_SUBNEGOTIATION)
+		die("payload", 0);
+	v = tv_verdict(server_seed, sizeof server_seed, table, table_length, host->payload, host->payload_length);
 	if (v.refusal)
 		die("verdict", v.refusal);
 	printf(": %s", verdict_name(v.verdict));
 	/* for the operator's desk; the client is told the verdict, and no more */
 	if (v.verdict != TV_VERDICT_GRANT)
 		fprintf(stderr, "sign-on: reason %d (docs/REASONS.md)\n",
-				tv_explain(server_seed, sizeof server_seed, table, table_length, payload, event.length).reason);
+				tv_explain(server_seed, sizeof server_seed, table, table_length, host->payload, host->payload_length).reason);
 	return v.verdict;
 }
 
-/* Reads the record from an end's place on. */
-static size_t read_record(struct end *e, uint8_t *out, size_t room)
+/* Reads a record: its length. Its data is the end's record until more is heard. */
+static size_t read_record(struct end *e)
 {
-	tv_record_t r;
+	size_t length;
 
-	hear(e);
-	r = tv_read_record(e->heard, e->heard_length, e->at, out, room);
-	if (r.refusal || !r.complete)
-		die("record", r.refusal);
-	e->at = r.next;
-	return r.length;
+	if (hear(e) != TV_COMMAND)
+		die("record", 0);
+	length = e->record_length;
+	e->record_length = 0;
+	return length;
 }
 
 static void send_record(struct end *e, const uint8_t *record, size_t length)
@@ -287,27 +329,26 @@ static void send_record(struct end *e, const uint8_t *record, size_t length)
 static void respond(struct end *host, struct end *printer, uint8_t verdict)
 {
 	uint8_t record[TV_RESPONSE_LENGTH];
-	uint8_t heard[ROOM];
 	tv_written_t w = tv_response(false, verdict, (const uint8_t *)"TARGET", 6,
 			(const uint8_t *)"PCPRINTER", 9, record, sizeof record);
 
 	if (w.refusal)
 		die("response", w.refusal);
 	send_record(host, record, w.length);
-	if (read_record(printer, heard, sizeof heard) != TV_RESPONSE_LENGTH)
+	if (read_record(printer) != TV_RESPONSE_LENGTH)
 		die("response", 0);
 	/* the code is EBCDIC: I902, or four digits */
 	printf(": ");
 	for (int i = 16; i < 20; i++)
-		putchar(heard[i] == 0xC9 ? 'I' : heard[i] & 0x3F);
+		putchar(printer->record[i] == 0xC9 ? 'I' : printer->record[i] & 0x3F);
 }
 
 static void print_order(struct end *host, struct end *printer)
 {
 	static const uint8_t first[] = "\x00\x1E\x12\xA0\x01\x01\x04\x18\x00\x01" "STEP DOWN";
 	static const uint8_t second[] = " 40 MW\xFF\r\n\f";
-	uint8_t record[ROOM], complete[TV_COMPLETE_LENGTH];
-	size_t start = printer->at, end, length;
+	uint8_t complete[TV_COMPLETE_LENGTH];
+	size_t length;
 	tv_taken_t taken;
 	tv_completed_t completed;
 	tv_frame_t frame;
@@ -315,32 +356,30 @@ static void print_order(struct end *host, struct end *printer)
 	send_event(host, TV_DATA, 0, 0, first, sizeof first - 1);
 	send_event(host, TV_NEGOTIATION, TV_DO, 6, NULL, 0);
 	send_record(host, second, sizeof second);
-	length = read_record(printer, record, sizeof record);
-	end = printer->at;
-	taken = tv_ledger_take(tv_ledger_fresh(), record, length);
+	length = read_record(printer);
+	taken = tv_ledger_take(tv_ledger_fresh(), printer->record, length);
 	if (taken.refusal)
 		die("ledger", taken.refusal);
 	printf(taken.receipt == TV_RECEIPT_HELD ? ": held" : ": not held");
 
-	/* the option command that stood in the record */
-	printer->at = tv_look(printer->heard, printer->heard_length, start).next;
+	/* the option command that came in the midst of the record */
 	answer(printer);
-	printer->at = end;
 
 	completed = tv_ledger_complete(taken.ledger, complete, sizeof complete);
 	if (completed.refusal)
 		die("completion", completed.refusal);
-	hear(host);
+	if (hear(host) != TV_END)
+		die("options", 0);
 	answer(host);
 	send_record(printer, complete, completed.length);
-	length = read_record(host, record, sizeof record);
-	frame = tv_read_frame(record, length);
+	length = read_record(host);
+	frame = tv_read_frame(host->record, length);
 	if (frame.refusal || frame.direction != TV_INBOUND || frame.operation != TV_OPERATION_PRINT)
 		die("frame", frame.refusal);
 	printf(": print complete");
 }
 
-int main(void)
+int main(int argc, char **argv)
 {
 	struct end host = {.name = "host"}, printer = {.name = "printer"};
 	uint8_t table[1 + TV_RECORD_ROOM] = {TV_TABLE_VERSION};
@@ -356,11 +395,19 @@ int main(void)
 	printer.socket = sockets[1];
 	host.sides = tv_sides_fresh();
 	printer.sides = tv_sides_fresh();
+	host.reader = tv_reader_fresh();
+	printer.reader = tv_reader_fresh();
+	if (argc > 1)
+		cut = strtoul(argv[1], NULL, 10);
+	if (cut < 1 || cut > ROOM)
+		die("argument", 0);
 
 	printf("A printer session");
 	negotiate(&host, &printer);
 	respond(&host, &printer, sign_on(&host, &printer, table, 1 + made.length));
 	print_order(&host, &printer);
 	printf("\n");
+	if (tv_reader_close(host.reader) || tv_reader_close(printer.reader))
+		die("line", tv_reader_close(host.reader));
 	return 0;
 }

@@ -1,7 +1,7 @@
 /*
  * Random and structured bytes through every call of the archive. After a refusal what was lent is as it was, after an answer nothing after the
- * told length has changed, and calls that belong together agree. Options, response records and the ledger are compared whole with a rendering of
- * the specification in C. Every call must be answered, and be refused by each number that the header gives
+ * told length has changed, and calls that belong together agree. The reader of fragments, options, response records and the ledger are compared
+ * whole with a rendering of the specification in C. Every call must be answered, and be refused by, or answer, each number that the header gives
  * it, at least once.
  */
 #include "fuzz.h"
@@ -158,6 +158,229 @@ static void try_stream(void)
 	try_event(line, length, below(length + 5));
 	try_record(line, length, 0);
 	try_record(line, length, below(length + 5));
+}
+
+/* Streams by fragments. */
+
+/* Where a stream is, by what of it is not whole: nothing, or the bytes of a command or subnegotiation, and then its payload. */
+struct course {
+	uint8_t begun[3], payload[TV_PAYLOAD_LIMIT], fault;
+	size_t length, carried;
+	bool doubling;
+};
+
+/* What a call is to give. */
+struct gift {
+	uint8_t number, what, code, option, data[TV_CALL_LIMIT];
+	size_t taken, length;
+};
+
+/* The reader's numbers, by the header's words. */
+static tv_reader_t reader_of(const struct course *c)
+{
+	if (c->fault)
+		return (tv_reader_t){TV_STAGE_FAILED, c->fault, 0};
+	if (c->length < 2)
+		return (tv_reader_t){c->length ? TV_STAGE_IAC_SEEN : TV_STAGE_DATA, 0, 0};
+	if (c->begun[1] != TV_SB)
+		return (tv_reader_t){TV_STAGE_CHOOSING, c->begun[1], 0};
+	if (c->length < 3)
+		return (tv_reader_t){TV_STAGE_OPENING, 0, 0};
+	return (tv_reader_t){c->doubling ? TV_STAGE_CLOSING : TV_STAGE_PAYLOAD, c->begun[2], c->carried};
+}
+
+/* And the course that numbers name. */
+static struct course course_of(tv_reader_t r, const uint8_t *kept)
+{
+	struct course c = {.begun = {TV_IAC}};
+	bool carries = r.stage == TV_STAGE_PAYLOAD || r.stage == TV_STAGE_CLOSING;
+
+	if (r.stage == TV_STAGE_FAILED && (r.code == 2 || r.code == 3 || r.code == 6))
+		c.fault = r.code;
+	if (r.stage == TV_STAGE_IAC_SEEN)
+		c.length = 1;
+	if (r.stage == TV_STAGE_CHOOSING && r.code >= TV_WILL && r.code <= TV_DONT)
+		c.begun[1] = r.code, c.length = 2;
+	if (r.stage == TV_STAGE_OPENING || carries)
+		c.begun[1] = TV_SB, c.length = 2;
+	if (carries) {
+		c.begun[2] = r.code, c.length = 3;
+		c.doubling = r.stage == TV_STAGE_CLOSING;
+		c.carried = r.count < TV_PAYLOAD_LIMIT ? r.count : TV_PAYLOAD_LIMIT;
+		memcpy(c.payload, kept, c.carried);
+	}
+	return c;
+}
+
+/* A byte inside a subnegotiation: whether the call ends. */
+static bool carry_on(struct course *c, struct gift *g, uint8_t b)
+{
+	bool second = c->doubling;
+
+	c->doubling = !second && b == TV_IAC;
+	if (c->doubling)
+		return false;
+	if (second && b == TV_SE) {
+		g->what = TV_SUBNEGOTIATION, g->option = c->begun[2];
+		return true;
+	}
+	if (second && b != TV_IAC)
+		return (c->fault = 2);
+	if (c->carried == TV_PAYLOAD_LIMIT)
+		return (c->fault = 3);
+	c->payload[c->carried++] = b;
+	return false;
+}
+
+/* The next byte of a stream: whether the call ends. */
+static bool go_on(struct course *c, struct gift *g, uint8_t b)
+{
+	if (c->length == 3)
+		return carry_on(c, g, b);
+	if ((c->length == 0 && b != TV_IAC) || (c->length == 1 && b == TV_IAC)) {
+		g->data[g->length++] = b;
+		c->length = 0;
+		return false;
+	}
+	c->begun[c->length++] = b;
+	if (c->length == 3 && c->begun[1] == TV_SB) {
+		c->carried = 0, c->doubling = false;
+		return false;
+	}
+	if (c->length == 3)
+		g->what = TV_NEGOTIATION, g->code = c->begun[1], g->option = b;
+	else if (c->length == 2 && (b < TV_EOR || b == TV_SE))
+		c->fault = 6;
+	else if (c->length == 2 && b < TV_SB)
+		g->what = TV_COMMAND, g->code = b;
+	return g->what || c->fault;
+}
+
+static struct gift gift_of(struct course *c, const uint8_t *fragment, size_t length, size_t room)
+{
+	struct gift g = {0};
+
+	if (room < TV_READER_ROOM)
+		g.number = 4;
+	else
+		g.number = c->fault;
+	while (!g.number && !g.what && g.taken < length && g.taken < TV_CALL_LIMIT && !go_on(c, &g, fragment[g.taken++]))
+		continue;
+	if (!g.number)
+		g.number = c->fault;
+	if (g.what)
+		c->length = 0;
+	return g;
+}
+
+static bool same_reader(tv_reader_t a, tv_reader_t b)
+{
+	return a.stage == b.stage && a.code == b.code && a.count == b.count;
+}
+
+static uint8_t close_reader(tv_reader_t reader)
+{
+	uint8_t n = tv_reader_close(reader);
+
+	counted(READER_CLOSE, n);
+	return n;
+}
+
+/* One call, compared whole. */
+static tv_fed_t feed(tv_reader_t reader, struct course *c, const uint8_t *fragment, size_t length)
+{
+	size_t room = one_in(8) ? below(TV_READER_ROOM) : one_in(8) ? TV_READER_ROOM - 1 : TV_READER_ROOM + (one_in(2) ? 0 : below(100));
+	struct slice s = give(0, fragment, length);
+	uint8_t *out = lend(&out_room, room), *kept = kept_room.memory + GUARD;
+	bool idle = room < TV_READER_ROOM || c->fault;
+	struct gift g = gift_of(c, fragment, length, room);
+	size_t payload = g.what == TV_SUBNEGOTIATION ? c->carried : 0;
+
+	memcpy(kept_room.before, kept_room.memory, sizeof kept_room.before);
+	tv_fed_t f = tv_reader_feed(reader, kept, s.bytes, s.length, out, room);
+	given_as_were();
+	counted(READER_FEED, f.number);
+	CHECK(f.number == g.number && f.what == g.what && f.code == g.code && f.option == g.option);
+	CHECK(f.taken == g.taken && f.length == g.length && f.payload == payload);
+	only_front(&out_room, f.length + f.payload);
+	CHECK(!memcmp(front(&out_room), g.data, g.length) && !memcmp(front(&out_room) + f.length, c->payload, payload));
+	only_front(&kept_room, idle ? 0 : TV_PAYLOAD_LIMIT);
+	CHECK(same_reader(f.reader, idle ? reader : reader_of(c)));
+	if (!idle)
+		CHECK(!memcmp(kept, c->payload, f.reader.count));
+	CHECK(close_reader(f.reader) == (c->fault ? c->fault : c->length ? 1 : 0));
+	return f;
+}
+
+/* What a stream came to, so that two ways of reading it can be compared: each piece by a byte that says what it is. */
+static struct account {
+	uint8_t bytes[4 * LONGEST];
+	size_t length;
+} by_calls, by_events;
+
+static void note(struct account *a, uint8_t what, uint8_t code, uint8_t option, const uint8_t *bytes, size_t length)
+{
+	if (what != TV_DATA) {
+		a->bytes[a->length++] = what;
+		a->bytes[a->length++] = code;
+		a->bytes[a->length++] = option;
+	}
+	for (size_t i = 0; i < length; i++) {
+		a->bytes[a->length++] = TV_DATA;
+		a->bytes[a->length++] = bytes[i];
+	}
+}
+
+/* The bytes that calls took, read at once. */
+static void read_at_once(const uint8_t *line, size_t taken, tv_reader_t reader)
+{
+	uint8_t plain[LONGEST];
+	size_t at = 0;
+	tv_event_t e;
+
+	by_events.length = 0;
+	while ((e = look_at(line, taken, at)).what != TV_END) {
+		size_t n = e.what == TV_DATA ? undoubled(line + at, line + e.next, plain)
+				: e.what == TV_SUBNEGOTIATION ? undoubled(line + at + 3, line + e.next - 2, plain) : 0;
+		note(&by_events, e.what, e.code, e.option, plain, n);
+		at = e.next;
+	}
+	CHECK(close_reader(reader) == e.refusal);
+	CHECK(by_calls.length == by_events.length && !memcmp(by_calls.bytes, by_events.bytes, by_calls.length));
+}
+
+static void try_fragments(void)
+{
+	uint8_t line[LONGEST];
+	size_t length = fill_stream(line, 3200), at = 0, most = one_in(12) ? 1 : one_in(2) ? 20 : 3000;
+	bool forged = one_in(4);
+	tv_reader_t reader = tv_reader_fresh();
+	struct course c;
+
+	counted(READER_FRESH, 0);
+	lend(&kept_room, TV_PAYLOAD_LIMIT);
+	if (forged) {
+		reader = (tv_reader_t){(uint8_t)below(9), (uint8_t)(one_in(2) ? below(8) : 250 + below(6)), one_in(4) ? any() : below(1040)};
+		if (one_in(8))
+			reader = (tv_reader_t){(uint8_t)any(), (uint8_t)any(), any()};
+	}
+	c = course_of(reader, kept_room.memory + GUARD);
+	by_calls.length = 0;
+	for (size_t tries = 2 * length + 20; tries; tries--) {
+		size_t n = below(most + 1);
+		tv_fed_t f = feed(reader, &c, line + at, n < length - at ? n : length - at);
+		note(&by_calls, TV_DATA, 0, 0, front(&out_room), f.length);
+		if (f.what)
+			note(&by_calls, f.what, f.code, f.option, front(&out_room) + f.length, f.payload);
+		at += f.taken;
+		reader = f.reader;
+		if ((c.fault || at == length) && one_in(4))
+			break;
+	}
+	if (!forged)
+		read_at_once(line, at, reader);
+	counted(READER_RESET, 0);
+	CHECK(same_reader(tv_reader_reset(reader), tv_reader_fresh()));
 }
 
 /* The refusal of what is to be written, by the header's words. */
@@ -1104,7 +1327,7 @@ static void try_print(void)
 
 static void try_one(void)
 {
-	static void (*const tries[])(void) = {try_stream, try_write, try_list, try_sides, try_env_read, try_env_write, try_tokens, try_table,
+	static void (*const tries[])(void) = {try_stream, try_fragments, try_write, try_list, try_sides, try_env_read, try_env_write, try_tokens, try_table,
 			try_verdict, try_print};
 
 	tries[below(sizeof tries / sizeof *tries)]();

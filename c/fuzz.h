@@ -50,7 +50,7 @@ static bool one_in(size_t n)
 
 /* What each call answered. */
 enum call {
-	LOOK, READ, READ_RECORD, WRITE, SIDES_FRESH, SIDES_RECEIVE, SIDES_REQUEST, OPTION_RECEIVE, OPTION_REQUEST, OPTION_HEAR, ENV_READ,
+	READER_FRESH, READER_RESET, READER_FEED, READER_CLOSE, LOOK, READ, READ_RECORD, WRITE, SIDES_FRESH, SIDES_RECEIVE, SIDES_REQUEST, OPTION_RECEIVE, OPTION_REQUEST, OPTION_HEAR, ENV_READ,
 	ENV_WRITE, ENV_VALUE, LINE, LIST, TABLE_CHECK,
 	TABLE_FIND, MAKE_RECORD, DES_TOKEN, DES_SUBSTITUTE, SHA_TOKEN, SHA_SUBSTITUTE, VERDICT, EXPLAIN, RESPONSE, READ_FRAME, LEDGER_FRESH,
 	LEDGER_TAKE, LEDGER_COMPLETE, HOW_MANY
@@ -60,6 +60,10 @@ static const struct promise {
 	const char *name;
 	uint8_t refusals[16]; /* 0 ends them */
 } promises[HOW_MANY] = {
+	[READER_FRESH] = {"tv_reader_fresh", {0}},
+	[READER_RESET] = {"tv_reader_reset", {0}},
+	[READER_FEED] = {"tv_reader_feed", {2, 3, 4, 6}},
+	[READER_CLOSE] = {"tv_reader_close", {1, 2, 3, 6}},
 	[LOOK] = {"tv_look", {1, 2, 3, 5, 6}},
 	[READ] = {"tv_read", {1, 2, 3, 4, 5, 6}},
 	[READ_RECORD] = {"tv_read_record", {1, 2, 3, 4, 5, 6}},
@@ -149,7 +153,7 @@ struct room {
 	_Alignas(size_t) uint8_t before[GUARD + CAPACITY + GUARD];
 };
 
-static struct room out_room, numbers_room;
+static struct room out_room, numbers_room, kept_room;
 
 static uint8_t *lend(struct room *room, size_t length)
 {

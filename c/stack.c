@@ -20,6 +20,36 @@ static const uint8_t name[] = "USER123XYZ", password[] = "ABCDEFGHIJ", seed[TV_S
 static const uint8_t more[] = {TV_ENV_VAR, 'Z', 'Z', 1, 'Z'};
 static uint8_t phrase[128], token[TV_SHA_LENGTH];
 
+static uint8_t kept[TV_PAYLOAD_LIMIT];
+
+static void reader_fresh(void)
+{
+	tv_reader_fresh();
+}
+
+static void reader_reset(void)
+{
+	tv_reader_reset((tv_reader_t){TV_STAGE_CLOSING, 39, 5000});
+}
+
+static void reader_feed(void)
+{
+	for (size_t cut = 1; cut < 1500; cut = 3 * cut + 1) {
+		tv_reader_t reader = tv_reader_fresh();
+		for (size_t at = 0, n; at < line_length; at += n) {
+			tv_fed_t f = tv_reader_feed(reader, kept, line + at, cut < line_length - at ? cut : line_length - at, out, sizeof out);
+			n = f.taken ? f.taken : 1;
+			reader = f.number ? tv_reader_reset(f.reader) : f.reader;
+		}
+	}
+}
+
+static void reader_close(void)
+{
+	for (unsigned stage = 0; stage < 8; stage++)
+		tv_reader_close((tv_reader_t){(uint8_t)stage, 6, 0});
+}
+
 static void look(void)
 {
 	for (size_t at = 0; at < line_length; at++)
@@ -231,6 +261,10 @@ static const struct measure {
 	void (*make)(void);
 	size_t limit;
 } measures[] = {
+	{"tv_reader_fresh", reader_fresh, TV_STACK_READER_FRESH},
+	{"tv_reader_reset", reader_reset, TV_STACK_READER_RESET},
+	{"tv_reader_feed", reader_feed, TV_STACK_READER_FEED},
+	{"tv_reader_close", reader_close, TV_STACK_READER_CLOSE},
 	{"tv_look", look, TV_STACK_LOOK},
 	{"tv_read", read_event, TV_STACK_READ},
 	{"tv_read_record", read_record, TV_STACK_READ_RECORD},

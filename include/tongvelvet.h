@@ -26,10 +26,10 @@
  *
  * Every call takes whatever it is given and ends. Where it cannot answer it
  * refuses by a number, TV_REFUSED_... below. Then no byte of what was lent has
- * changed, and every other field of the answer is 0; but sides, a ledger and
- * the place on a line are handed back by the very numbers that were given.
- * Where it does not refuse, no byte after the length that it tells has
- * changed.
+ * changed, and every other field of the answer is 0; but sides, a ledger, a
+ * reader and the place on a line are handed back by the very numbers that were
+ * given. Where it does not refuse, no byte after the length that it tells has
+ * changed; tv_reader_feed tells two lengths, and is lent an array besides.
  *
  * STACK:
  *
@@ -232,6 +232,103 @@ typedef struct tv_written {
 	uint8_t refusal;
 	size_t length;
 } tv_written_t;
+
+/*
+ * The stream, as the line delivers it. A reader takes the bytes of one session
+ * in fragments, cut anywhere: this is how a gateway reads from a socket. The
+ * caller keeps the reader and an array of TV_PAYLOAD_LIMIT bytes for it, one
+ * of each for a session, and hands both in with each call; the reader that
+ * comes back is the state for the next one. In the array the payload of a
+ * subnegotiation waits until it is whole. What it holds before the first call,
+ * and past the reader's count later, does not matter and may change.
+ *
+ * A call takes bytes through the last one of the first command or
+ * subnegotiation, or through one that is at fault, else to the end of the
+ * fragment or TV_CALL_LIMIT of them, whichever is first. Call again with what
+ * is left of the fragment until all of it is taken: a call that is given a
+ * byte takes one, until there is a fault.
+ *
+ * However the stream is cut, the data, commands and subnegotiations of all
+ * calls are those that tv_read finds in the bytes taken, in their order, but
+ * that a run of data may come in pieces.
+ */
+
+/* The most bytes of a fragment that a call takes. */
+#define TV_CALL_LIMIT 1024
+
+/* The room that a call is lent at least: data and payload always fit. */
+#define TV_READER_ROOM 2048
+
+/*
+ * Where a reader is: in data, after a 255, after the code of an option
+ * command, after 255 250, in a payload, after a 255 in a payload, or after a
+ * fault. Another number, and 2 or 6 with a code that such a stage cannot have,
+ * reads as TV_STAGE_DATA; a call that refuses hands it back as it was given.
+ */
+#define TV_STAGE_DATA 0
+#define TV_STAGE_IAC_SEEN 1
+#define TV_STAGE_CHOOSING 2
+#define TV_STAGE_OPENING 3
+#define TV_STAGE_PAYLOAD 4
+#define TV_STAGE_CLOSING 5
+#define TV_STAGE_FAILED 6
+
+/* A reader. At first it is what tv_reader_fresh hands out. */
+typedef struct tv_reader {
+	uint8_t stage; /* TV_STAGE_... */
+	uint8_t code;  /* TV_WILL to TV_DONT at TV_STAGE_CHOOSING, the option at
+	                  TV_STAGE_PAYLOAD and _CLOSING, 2, 3 or 6 at
+	                  TV_STAGE_FAILED, else 0 */
+	size_t count;  /* how many payload bytes the array has at
+	                  TV_STAGE_PAYLOAD and _CLOSING, else 0; more than
+	                  TV_PAYLOAD_LIMIT reads as that */
+} tv_reader_t;
+
+/*
+ * What a call gives. number is 0; or 4, a refusal; or 2, 3 or 6, a fault of
+ * the stream, which is no refusal: the data before the fault is given, no
+ * event, and taken counts through the byte that is at fault.
+ */
+typedef struct tv_fed {
+	tv_reader_t reader; /* to go on with */
+	uint8_t number;
+	uint8_t what;    /* TV_END where there is no event, else TV_COMMAND,
+	                    TV_NEGOTIATION or TV_SUBNEGOTIATION */
+	uint8_t code;    /* as tv_event_t has it */
+	uint8_t option;
+	size_t taken;    /* how many bytes of the fragment */
+	size_t length;   /* how many bytes of data are at the front of the room */
+	size_t payload;  /* how many payload bytes are right after the data */
+} tv_fed_t;
+
+/* A reader that has read nothing: what a session begins with. Never refused. */
+#define TV_STACK_READER_FRESH 512
+extern tv_reader_t tv_reader_fresh(void);
+
+/* The same, whatever the reader was. Never refused. */
+#define TV_STACK_READER_RESET 512
+extern tv_reader_t tv_reader_reset(tv_reader_t reader);
+
+/*
+ * Takes a fragment. The array, the fragment and the room must not overlap.
+ * After a fault every call answers its number, takes nothing and leaves
+ * reader, array and room as they are, until the reader is reset.
+ * Refused by 4 where the room is under TV_READER_ROOM bytes, before anything
+ * else is looked at: also after a fault, and with nothing to take.
+ */
+#define TV_STACK_READER_FEED 512
+extern tv_fed_t tv_reader_feed(tv_reader_t reader,
+		uint8_t kept[TV_PAYLOAD_LIMIT],
+		const uint8_t *fragment, size_t fragment_length,
+		uint8_t *room, size_t room_length);
+
+/*
+ * The stream has ended: 0 where that is between two events, 1 in the middle of
+ * one, and the number of the fault after a fault. The reader is the caller's
+ * as it was. Never refused.
+ */
+#define TV_STACK_READER_CLOSE 512
+extern uint8_t tv_reader_close(tv_reader_t reader);
 
 /*
  * The event at a place of a line. Nothing is copied.
@@ -817,6 +914,21 @@ TV_AT(tv_record_t, next, 16);
 TV_LAYOUT(sizeof(tv_written_t) == 16);
 TV_AT(tv_written_t, refusal, 0);
 TV_AT(tv_written_t, length, 8);
+
+TV_LAYOUT(sizeof(tv_reader_t) == 16);
+TV_AT(tv_reader_t, stage, 0);
+TV_AT(tv_reader_t, code, 1);
+TV_AT(tv_reader_t, count, 8);
+
+TV_LAYOUT(sizeof(tv_fed_t) == 48);
+TV_AT(tv_fed_t, reader, 0);
+TV_AT(tv_fed_t, number, 16);
+TV_AT(tv_fed_t, what, 17);
+TV_AT(tv_fed_t, code, 18);
+TV_AT(tv_fed_t, option, 19);
+TV_AT(tv_fed_t, taken, 24);
+TV_AT(tv_fed_t, length, 32);
+TV_AT(tv_fed_t, payload, 40);
 
 TV_LAYOUT(sizeof(tv_pair_t) == 2);
 TV_AT(tv_pair_t, ours, 0);

@@ -85,6 +85,7 @@ use Rattle.export_print.specs.Numbers.{frameNumbers, ledgerNumbers, ledgerNamed
 use Rattle.claims.specs.Refusals.{oneOf, Refuses, byReceipt}
 use Rattle.claims.specs.Demand1.{RefusesBy, RefusesInto, RefusesOnLine}
 use Rattle.claims.specs.Demand1C.{Writes, Steps, StepsOnLine, Demand1C}
+use Rattle.claims.proofs.FragmentRefusals.{reader-feeds}
 use Rattle.claims.proofs.OneOf.{of-none, more, after, wider, mapped, numbers-of}
 use Rattle.claims.proofs.LineRefusals.{looks, reads, reads-records, writes, lists}
 use Rattle.claims.proofs.SessionRefusals.{session-receives, session-requests, line-receives, line-requests}
@@ -294,6 +295,7 @@ demand-1-c-holds = record {
   writeNothing = λ what code option payload out h.
       ap (λ (k : NamedKind). writtenNumbers (Telnet.writeNamed k payload out .answer) .refusal)
       (no-kind what code option .1 h);
+  readerFeed = reader-feeds;
   sidesReceive = λ s code option accept. receives-named _ tt s (verbNamed code) option accept;
   sidesRequest = λ s ours option on.
       let x = sidesNamed s in

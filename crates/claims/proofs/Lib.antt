@@ -1,6 +1,7 @@
 pub mod Worked
 pub mod OneOf
 pub mod LineRefusals
+pub mod FragmentRefusals
 pub mod SessionRefusals
 pub mod PayloadRefusals
 pub mod SignonRefusals

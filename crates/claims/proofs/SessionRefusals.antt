@@ -11,6 +11,8 @@ use Rattle.octets.specs.Lent.{Outcome}
 use Rattle.refusal.specs.Refusal.{offAnsweredByOn}
 use Rattle.refusal.specs.RefusedBy.{Refusal, noRefusal, refusedBy, byNumber}
 use Rattle.telnet.specs.declared.Verb.{Verb}
+use Rattle.telnet.specs.declared.Kind.{Kind}
+use Rattle.telnet.specs.declared.Kind.the-variants.{Data, Command as Simple, Negotiation, Subnegotiation}
 use Rattle.telnet.proofs.Refusals.{front-by}
 use Rattle.option_rules.specs.declared.Command.{Command}
 use Rattle.option_rules.specs.declared.Side.{Side}
@@ -20,7 +22,7 @@ use Rattle.option_verbs.specs.Verbs.{toldBy}
 use Rattle.option_sides.specs.Session.{sideAt, withSide, received, requested}
 use Rattle.option_sides.proofs.Setting.{own-side}
 use Rattle.option_line.specs.declared.Sent.{Sent}
-use Rattle.option_line.specs.Line.{receivedOn, requestedOn, heardOn}
+use Rattle.option_line.specs.Line.{receivedOn, requestedOn, heardEvent, heardOn}
 use Rattle.option_line.specs.Theorems.{Kept}
 use Rattle.option_line.proofs.Telling.{number-by, request-tells-all, receipt-tells-all}
 use Rattle.option_line.proofs.Hearing.{heard-number, hear-tells}
@@ -115,3 +117,9 @@ line-hears s heard from accept l at =
     (λ v o. nothing-refused (5 ∷ 4 ∷ line) s v o accept)
     (front-by (λ n. RefusesBy (5 ∷ 4 ∷ line) (byReceipt n)) (tt, refl) (tt, refl) (tt, refl) (tt, refl) (drop from heard)))
     (hear-tells s heard from accept l at .kept)
+
+pub line-hears-events : (s : Sides) (k : Kind) (accept : Bool) (l : List ℕ) (at : ℕ) → RefusesOnLine (5 ∷ 4 ∷ []) byReceipt s l at (heardEvent s k accept l at)
+line-hears-events s Data accept l at = tt
+line-hears-events s (Simple c) accept l at = tt
+line-hears-events s (Negotiation v o) accept l at = line-receives s v o accept l at
+line-hears-events s (Subnegotiation o) accept l at = tt

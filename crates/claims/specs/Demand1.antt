@@ -20,6 +20,8 @@ use Rattle.telnet.specs.Event.{Event}
 use Rattle.telnet_reader.specs.Promise.{lookAt, readAt, eventRefusal}
 use Rattle.telnet_records.specs.Promise.{recordAt, recordRefusal}
 use Rattle.telnet_writer.specs.Promise.{writeOf}
+use Rattle.telnet_fragments.specs.declared.Reader.{Reader}
+use Rattle.telnet_fragments.specs.Chain.{Made, Promised}
 use Rattle.option_rules.specs.declared.Command.{Command}
 use Rattle.option_rules.specs.declared.Side.{Side}
 use Rattle.option_rules.specs.Table.{rulesOf, onReceive, onRequest}
@@ -27,8 +29,9 @@ use Rattle.option_verbs.specs.declared.Whose.{Whose}
 use Rattle.option_sides.specs.declared.Sides.{Sides}
 use Rattle.option_sides.specs.Session.{received, requested}
 use Rattle.option_line.specs.declared.Sent.{Sent}
-use Rattle.option_line.specs.Line.{receivedOn, requestedOn, heardOn}
+use Rattle.option_line.specs.Line.{receivedOn, requestedOn, heardEvent, heardOn}
 use Rattle.telnet.specs.declared.Verb.{Verb}
+use Rattle.telnet.specs.declared.Kind.{Kind}
 use Rattle.env.specs.declared.VariableRecord.{VariableRecord}
 use Rattle.env_delivery.specs.Promise.{Delivery, readInto, readAfter, deliverRead, handOver, payloadRefusal}
 use Rattle.env_list.specs.Reading.{readRecords}
@@ -48,7 +51,7 @@ use Rattle.signon.specs.Verdict.{answerOf}
 use Rattle.signon.specs.Reason.{explainOf}
 use Rattle.signon.specs.Refusals.{verdictRefusal, explainRefusal}
 use Rattle.startup_record.specs.Promise.{respondInto}
-use Rattle.claims.specs.Refusals.{Refuses, byReceipt}
+use Rattle.claims.specs.Refusals.{Refuses, byReceipt, byFeed}
 
 -- the numbers of "Refusal numbers", by subject: those of the line, of a payload, of a frame, of a table
 abbrev pub line : List ℕ
@@ -86,6 +89,10 @@ pub record Demand1 : Type 0 where
   pub read : (s : List ℕ) (at : ℕ) (out : List ℕ) → RefusesInto (5 ∷ 4 ∷ line) eventRefusal out (readAt s at out)
   pub readRecord : (s : List ℕ) (at : ℕ) (out : List ℕ) → RefusesInto (5 ∷ 4 ∷ line) recordRefusal out (recordAt s at out)
   pub write : (e : Event) (out : List ℕ) → RefusesInto (7 ∷ 3 ∷ 4 ∷ []) writtenRefusal out (writeOf e out)
+  -- a stream taken by fragments: `feed`; reader, array and room are as they were. `fresh`, `reset` and `close` refuse
+  -- nothing: what closing answers is no refusal.
+  pub feed : (c : Made) → Promised c
+      → Refuses (4 ∷ []) {L = Reader × (List ℕ × List ℕ)} (c .reader, (c .kept, c .room)) (c .answer .reader, (c .keeps, c .left)) (byFeed (c .answer .number))
   -- the listing of a stream, or one line of it: `list`, `line`
   pub list : (words out : List ℕ) → RefusesInto (4 ∷ []) writtenRefusal out (writtenInto words out)
   -- one side of an option: a receipt refuses nothing, a request hands the state back
@@ -100,6 +107,8 @@ pub record Demand1 : Type 0 where
       → RefusesOnLine (5 ∷ 4 ∷ []) byReceipt s l at (receivedOn s v o accept l at)
   pub lineRequest : (s : Sides) (w : Whose) (o : ℕ) (c : Command) (l : List ℕ) (at : ℕ)
       → RefusesOnLine (5 ∷ 4 ∷ 10 ∷ 11 ∷ 12 ∷ 13 ∷ []) byNumber s l at (requestedOn s w o c l at)
+  -- with an event that was read
+  pub lineHearEvent : (s : Sides) (k : Kind) (accept : Bool) (l : List ℕ) (at : ℕ) → RefusesOnLine (5 ∷ 4 ∷ []) byReceipt s l at (heardEvent s k accept l at)
   -- and where what is heard cannot be read
   pub lineHear : (s : Sides) (heard : List ℕ) (from : ℕ) (accept : Bool) (l : List ℕ) (at : ℕ)
       → RefusesOnLine (5 ∷ 4 ∷ line) byReceipt s l at (heardOn s heard from accept l at)

@@ -1,7 +1,7 @@
 -- Demand 1 at the boundary to C: the calls `tv_..` are the entry points of a gateway in C, over the definitions that
 -- their promises equal. Each refuses by numbers of its own, and then leaves every buffer and list as it was, and hands
--- back sides, ledger and place by the numbers that were given. `tv_sides_fresh`, `tv_env_value` and `tv_ledger_fresh`
--- refuse nothing.
+-- back sides, ledger, reader and place by the numbers that were given. `tv_sides_fresh`, `tv_env_value`,
+-- `tv_ledger_fresh`, `tv_reader_fresh`, `tv_reader_reset` and `tv_reader_close` refuse nothing.
 use Prim.Native.Nat.{ℕ, _<_}
 use mathlib.Core.Path.{_≡_}
 use mathlib.Core.Bool.{Bool}
@@ -30,6 +30,9 @@ use Rattle.print_ledger.specs.Ledger.{takeFrame, completeInto}
 use Rattle.export.specs.declared.TvWritten.{TvWritten}
 use Rattle.export.specs.Numbers.{numbered, writtenNumbers, verbNamed, kindNamed, NoCode}
 use Rattle.export_telnet.specs.Numbers as Telnet
+use Rattle.export_reader.specs.declared.TvReader.{TvReader}
+use Rattle.export_reader.specs.declared.TvFed.{TvFed}
+use Rattle.export_reader.specs.Numbers.{FedByNumbers}
 use Rattle.export_option.specs.declared.TvSides.{TvSides}
 use Rattle.export_option.specs.declared.TvAnswered.{TvAnswered}
 use Rattle.export_option.specs.declared.TvSent.{TvSent}
@@ -40,7 +43,7 @@ use Rattle.export_password.specs.Numbers.{blockNumbers, hashInto, substituteInt
 use Rattle.export_signon.specs.Numbers.{verdictNamed, answerNumbers, explainedNumbers}
 use Rattle.export_print.specs.declared.TvLedger.{TvLedger}
 use Rattle.export_print.specs.Numbers.{frameNumbers, ledgerNamed, takenNumbers, completedNumbers}
-use Rattle.claims.specs.Refusals.{Refuses, byReceipt}
+use Rattle.claims.specs.Refusals.{Refuses, byReceipt, byFeed}
 use Rattle.claims.specs.Demand1.{line, payload, frame, table, RefusesBy}
 
 -- a call that writes to the front of a buffer: by one of these numbers, with the buffer as it was
@@ -71,6 +74,9 @@ pub record Demand1C : Type 0 where
   -- and 7 where the numbers name no event
   pub writeNothing : (what code option : ℕ) (payload out : List ℕ) → ((what < 1) ⊎ (4 < what)) ⊎ ((what ≡ 3) × NoCode code)
       → numbered writtenNumbers (Telnet.writeNamed (kindNamed what code option) payload out) .answer .refusal ≡ 7
+  -- tv_reader_feed
+  pub readerFeed : (given : TvReader) (kept fragment room : List ℕ) (r : TvFed) (keeps left : List ℕ) → FedByNumbers given kept fragment room r keeps left
+      → Refuses (4 ∷ []) {L = TvReader × (List ℕ × List ℕ)} (given, (kept, room)) (r .reader, (keeps, left)) (byFeed (r .number))
   -- tv_sides_receive, tv_sides_request
   pub sidesReceive : (s : TvSides) (code option : ℕ) (accept : Bool) → Steps (6 ∷ []) byReceipt s (receiveNamed s (verbNamed code) option accept)
   pub sidesRequest : (s : TvSides) (ours : Bool) (option : ℕ) (on : Bool)

@@ -6,6 +6,7 @@
 -- say; here is what holds above single functions. The order of refusals is `Orders.antt`; the table of the option rules
 -- is `option_rules/specs/Table.antt`, and two ends under it are `Demand3.antt`.
 use Rattle.telnet.specs.Theorems as Telnet
+use Rattle.telnet_fragments.specs.Theorems as Fragments
 use Rattle.option_verbs.specs.Verbs.{HeardAsSaid}
 use Rattle.option_sides.specs.Session.{SetsOne}
 use Rattle.option_line.specs.Theorems.{RequestIsHeard, RequestTells, ReceiptTells, HearTells}
@@ -36,6 +37,29 @@ pub record Demand2 : Type 0 where
   -- "One call reads one event at a place and gives the next place": the reading of a whole stream is one such call
   -- after another.
   pub oneEventAfterAnother : Telnet.Unrolled
+  -- FRAMING, BY FRAGMENTS (change request No. 2): "Demand 2 reads over the joined input", over the calls as they were
+  -- made and answered
+  -- "From fresh or reset, each call given the last one's state and the bytes not yet taken, however cut, even with
+  -- nothing between two cuts, data, commands and subnegotiations in their order and the end state equal the whole
+  -- reading of the bytes taken, with adjacent runs joined."
+  pub takesTheStream : Fragments.TakesTheStream
+  pub endsInItsMode : Fragments.EndsInItsMode
+  -- "Where the whole reading refuses with 1, the fragment reader is still waiting and only a closing call gives 1; at
+  -- rest closing gives end."
+  pub closesAlike : Fragments.ClosesAlike
+  -- "A call ends at the first command or subnegotiation completed, at the fragment's end, or after 1,024 bytes of it; it
+  -- gives the data before, that event if any, its payload right after the data, and the count taken."
+  pub endsThere : Fragments.EndsThere
+  -- And it takes a byte where there is one, so that every stream is taken to its end or to its fault.
+  pub takesSome : Fragments.TakesSome
+  -- "The call that meets 2, 3 or 6 .. gives its number, the data before, no event, and counts through the faulting
+  -- byte"; "4 only for lent room under 2,048 bytes".
+  pub numbersGiven : Fragments.NumbersGiven
+  -- "later calls take nothing and answer that number until reset."
+  pub staysAsItWas : Fragments.StaysAsItWas
+  -- "however cut": two lists of calls that took equally many bytes of one stream gave the same, close alike and go on
+  -- alike.
+  pub howeverCut : Fragments.HoweverCut
   -- RECORDS
   -- "A record is all data between two end-of-record events; commands between don't break it."
   pub recordIsAllData : Telnet.RecordIsAllData

@@ -6,12 +6,16 @@ use mathlib.Core.List.{List, [], _∷_}
 use lib.Dec.{T, eqb}
 use mathlib.Core.Path.{_≡_}
 use Rattle.octets.specs.Choice.{if_then_else_}
-use Rattle.refusal.specs.Refusal.{offAnsweredByOn}
+use Rattle.refusal.specs.Refusal.{noRoom, offAnsweredByOn}
 use Rattle.refusal.specs.RefusedBy.{Refusal, noRefusal, refusedBy, byNumber}
 
 -- the number of a receipt of an option command: 14 is a note
 abbrev pub byReceipt : ℕ → Refusal
 byReceipt n = if eqb n offAnsweredByOn then noRefusal else byNumber n
+
+-- the number of a call that takes a fragment: 2, 3 and 6 are faults of the stream, which are no refusal
+abbrev pub byFeed : ℕ → Refusal
+byFeed n = if eqb n noRoom then refusedBy n else noRefusal
 
 -- a number is among some
 unfoldable pub oneOf : List ℕ → ℕ → Bool

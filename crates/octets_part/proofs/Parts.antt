@@ -10,11 +10,17 @@ use lib.Seq.{take-all, take-length, drop-length}
 use Rattle.octets.specs.Part.{part}
 use Rattle.octets.proofs.Order.{below-or-above}
 
-take-min : (n : ℕ) (l : List ℕ) → take (min n (length l)) l ≡ take n l
+pub take-min : (n : ℕ) (l : List ℕ) → take (min n (length l)) l ≡ take n l
 take-min n l =
     ⊎-elim (λ h. let e : min n (length l) ≡ n = omega arith in rw e)
     (λ h. let e : min n (length l) ≡ length l = omega arith in rw e (take-length l ∙ sym (take-all n l h)))
     (below-or-above n (length l))
+
+-- the same where the limit is given
+pub take-clipped : (k : ℕ) (l : List ℕ) → take (min (length l) k) l ≡ take k l
+take-clipped k l =
+    let e : min (length l) k ≡ min k (length l) = omega arith in
+    rw e (take-min k l)
 
 drop-min : (n : ℕ) (l : List ℕ) → drop (min n (length l)) l ≡ drop n l
 drop-min n l =

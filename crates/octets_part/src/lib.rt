@@ -6,7 +6,7 @@ ghost use lib.ListN.{getD};
 ghost use Rattle.octets.specs.Part as octets;
 
 // A number, but no more than a limit.
-fn clipped(n: usize, limit: usize) -> usize
+pub fn clipped(n: usize, limit: usize) -> usize
     ensures { λ r. ⌜ r ≡ min n limit ⌝ }
 {
     if limit < n {

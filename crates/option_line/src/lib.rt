@@ -114,8 +114,9 @@ pub fn request(
     send(sides, answered, line, at)
 }
 
-// An option command is answered; any other event concerns no option.
-fn hear_event(sides: Sides, kind: Kind, accept: bool, line: &mut [u8], at: usize) -> Sent
+// This end hears an event that was read, and answers it on its line if it is an option command, as `receive` does. Any
+// other concerns no option: the answer is 0, with sides, line and place as they are.
+pub fn hear_event(sides: Sides, kind: Kind, accept: bool, line: &mut [u8], at: usize) -> Sent
     ensures { λ r. ⌜
         outcome r (now (line .exit)) ≡ heardEvent sides kind accept (now (line .entry)) at
         ⌝ }

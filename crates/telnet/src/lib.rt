@@ -1,6 +1,7 @@
 // Telnet: the events and records of a line. This crate has what is right, and no function: start with
 // `specs/Event.antt`, `specs/Write.antt` and `specs/Read.antt`. The code is in `telnet_data`, `telnet_lead`,
-// `telnet_reader`, `telnet_records`, `telnet_writer`, `telnet_line` and `telnet_listing`.
+// `telnet_reader`, `telnet_records`, `telnet_writer`, `telnet_line` and `telnet_listing`; a stream that comes in
+// fragments is in `telnet_fragments` and `telnet_feed`.
 
 // The codes of a line (RFC 854 and 855; EOR, RFC 885), and the most bytes of a payload.
 pub const EOR: u8 = 239;

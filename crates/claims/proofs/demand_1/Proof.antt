@@ -1,7 +1,8 @@
 -- `claims::demand_1` promises that every entry point refuses by its own numbers and leaves all as it was. Assumes
 -- nothing.
 use Rattle.claims.proofs.LineRefusals.{looks, reads, reads-records, writes, lists, receives, requests}
-use Rattle.claims.proofs.SessionRefusals.{session-receives, session-requests, line-receives, line-requests, line-hears}
+use Rattle.claims.proofs.FragmentRefusals.{feeds}
+use Rattle.claims.proofs.SessionRefusals.{session-receives, session-requests, line-receives, line-requests, line-hears, line-hears-events}
 use Rattle.claims.proofs.PayloadRefusals.{reads-payloads, reads-lists, writes-payloads, reads-variables, delivers, hands-over}
 use Rattle.claims.proofs.SignonRefusals.{checks, finds, makes, des-tokens, sha-tokens, des-substitutes, sha-substitutes, judges, explains, responds, reads-frames, takes, completes}
 use Rattle.claims.proofs.demand_1.Statement.{statement}
@@ -13,6 +14,7 @@ returns c = record {
   read = reads;
   readRecord = reads-records;
   write = writes;
+  feed = feeds;
   list = lists;
   receive = receives;
   request = requests;
@@ -20,6 +22,7 @@ returns c = record {
   sessionRequest = session-requests;
   lineReceive = line-receives;
   lineRequest = line-requests;
+  lineHearEvent = line-hears-events;
   lineHear = line-hears;
   readPayload = reads-payloads;
   readRecords = reads-lists;

@@ -3,6 +3,9 @@ use Rattle.telnet.proofs.RoundTrip.{reads-back, writes-back}
 use Rattle.telnet.proofs.Writable.{read-is-writable}
 use Rattle.telnet.proofs.Unroll.{unrolled}
 use Rattle.telnet.proofs.Between.{record-is-all-data, record-reads-back}
+use Rattle.telnet_fragments.proofs.Chaining.{takes-the-stream, ends-in-its-mode}
+use Rattle.telnet_fragments.proofs.Closing.{closes-alike, however-cut}
+use Rattle.telnet_fragments.proofs.Ending.{ends-there, takes-some, numbers-given, stays-as-it-was}
 use Rattle.option_verbs.proofs.Heard.{heard-as-said}
 use Rattle.option_sides.proofs.Setting.{sets-one}
 use Rattle.option_line.proofs.Telling.{request-tells-all, receipt-tells-all}
@@ -39,6 +42,14 @@ returns c = record {
   bytesWrittenBack = writes-back;
   readIsWritable = read-is-writable;
   oneEventAfterAnother = unrolled;
+  takesTheStream = takes-the-stream;
+  endsInItsMode = ends-in-its-mode;
+  closesAlike = closes-alike;
+  endsThere = ends-there;
+  takesSome = takes-some;
+  numbersGiven = numbers-given;
+  staysAsItWas = stays-as-it-was;
+  howeverCut = however-cut;
   recordIsAllData = record-is-all-data;
   recordReadsBack = record-reads-back;
   heardAsSaid = heard-as-said;

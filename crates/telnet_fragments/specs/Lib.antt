@@ -1,0 +1,5 @@
+pub mod Call
+pub mod Promise
+pub mod Joined
+pub mod Chain
+pub mod Theorems
