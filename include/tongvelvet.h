@@ -286,8 +286,9 @@ typedef struct tv_reader {
 
 /*
  * What a call gives. number is 0; or 4, a refusal; or 2, 3 or 6, a fault of
- * the stream, which is no refusal: the data before the fault is given, no
- * event, and taken counts through the byte that is at fault.
+ * the stream, which is no refusal: the call that meets it gives the data
+ * before it and no event, and taken counts through the byte that is at fault.
+ * Later calls give nothing but the number.
  */
 typedef struct tv_fed {
 	tv_reader_t reader; /* to go on with */
