@@ -261,10 +261,10 @@ static void tell_environment(struct end *printer, uint64_t seed)
 {
 	uint8_t bytes[] = "USER" "USER123" "IBMRSEED" "........" "IBMSUBSPW" "........" "DEVNAME" "PCPRINTER";
 	const size_t places[] = {
-		TV_ENV_VAR, 0, 4, 4, 7,
-		TV_ENV_USERVAR, 11, 8, 19, 8,
-		TV_ENV_USERVAR, 27, 9, 36, 8,
-		TV_ENV_USERVAR, 44, 7, 51, 9,
+		TV_ENV_VAR, 0, 4, 4, 7, TV_ENV_DEFINED,
+		TV_ENV_USERVAR, 11, 8, 19, 8, TV_ENV_DEFINED,
+		TV_ENV_USERVAR, 27, 9, 36, 8, TV_ENV_DEFINED,
+		TV_ENV_USERVAR, 44, 7, 51, 9, TV_ENV_DEFINED,
 	};
 	uint8_t payload[TV_PAYLOAD_LIMIT];
 	tv_block_t token = tv_des_token(bytes + 4, 7, (const uint8_t *)"ABCDEFG", 7);

@@ -631,7 +631,7 @@ struct variables {
 	size_t length, count, numbers[NUMBERS];
 };
 
-static uint64_t absent;
+static uint64_t absent, undefined;
 
 static size_t put_escaped(uint8_t *to, const uint8_t *from, size_t length)
 {
@@ -658,7 +658,7 @@ static size_t fill_payload(uint8_t *payload)
 		payload[n++] = (uint8_t)(3 * below(2));
 		n += put_escaped(payload + n, text, fill(text, one_in(3)));
 		payload[n++] = (uint8_t)(one_in(60) ? 'A' : 'A' + i % 64);
-		if (one_in(30))
+		if (one_in(8))
 			continue;
 		payload[n++] = 1;
 		n += put_escaped(payload + n, text, fill(text, below(one_in(12) ? sizeof text : 8)));
@@ -702,13 +702,14 @@ static tv_written_t write_payload(const struct variables *v, size_t room)
 	return w;
 }
 
-/* Both hold the same kinds, names and values. */
+/* Both hold the same kinds, names and values, the same ones of them undefined. */
 static void same_variables(const struct variables *a, const struct variables *b)
 {
 	CHECK(a->first == b->first && a->count == b->count);
 	for (size_t i = 0; i < a->count; i++) {
 		const size_t *x = a->numbers + TV_ENV_NUMBERS * i, *y = b->numbers + TV_ENV_NUMBERS * i;
 		CHECK(x[TV_ENV_KIND] == y[TV_ENV_KIND]);
+		CHECK((x[TV_ENV_MARK] == TV_ENV_DEFINED) == (y[TV_ENV_MARK] == TV_ENV_DEFINED));
 		CHECK(x[TV_ENV_NAME_LENGTH] == y[TV_ENV_NAME_LENGTH] && x[TV_ENV_VALUE_LENGTH] == y[TV_ENV_VALUE_LENGTH]);
 		CHECK(!memcmp(a->bytes + x[TV_ENV_NAME_AT], b->bytes + y[TV_ENV_NAME_AT], x[TV_ENV_NAME_LENGTH]));
 		CHECK(!memcmp(a->bytes + x[TV_ENV_VALUE_AT], b->bytes + y[TV_ENV_VALUE_AT], x[TV_ENV_VALUE_LENGTH]));
@@ -729,14 +730,21 @@ static tv_value_t value_of(const struct variables *v, size_t kind, const uint8_t
 	return value;
 }
 
-/* One of the variables of a payload that was read is found where its record says. */
+/* One of the variables of a payload that was read is found where its record says, unless it is undefined. */
 static void try_value(const struct variables *v)
 {
 	const size_t *r = v->numbers + TV_ENV_NUMBERS * below(v->count);
 	tv_value_t value = value_of(v, r[TV_ENV_KIND], v->bytes + r[TV_ENV_NAME_AT], r[TV_ENV_NAME_LENGTH]);
 
-	CHECK(value.present && value.at == r[TV_ENV_VALUE_AT] && value.length == r[TV_ENV_VALUE_LENGTH]);
-	CHECK(value.at + value.length <= v->length);
+	CHECK(r[TV_ENV_MARK] == TV_ENV_DEFINED || r[TV_ENV_MARK] == TV_ENV_UNDEFINED);
+	CHECK(r[TV_ENV_VALUE_AT] == r[TV_ENV_NAME_AT] + r[TV_ENV_NAME_LENGTH]);
+	if (r[TV_ENV_MARK]) {
+		CHECK(!value.present && !r[TV_ENV_VALUE_LENGTH]);
+		undefined++;
+	} else {
+		CHECK(value.present && value.at == r[TV_ENV_VALUE_AT] && value.length == r[TV_ENV_VALUE_LENGTH]);
+		CHECK(value.at + value.length <= v->length);
+	}
 	CHECK(!value_of(v, TV_ENV_VAR, (const uint8_t *)"a name that nobody has", 22).present);
 	CHECK(!value_of(v, 1, v->bytes + r[TV_ENV_NAME_AT], r[TV_ENV_NAME_LENGTH]).present);
 }
@@ -760,12 +768,7 @@ static void try_env_read(void)
 	if (v.count)
 		try_value(&v);
 	tv_written_t w = write_payload(&v, 1024);
-	CHECK(!w.refusal || w.refusal == 3);
-	if (w.refusal)
-		return;
-	memcpy(payload, front(&out_room), w.length);
-	CHECK(!read_payload(payload, w.length, &again, 1024, TV_ENV_NUMBERS * TV_ENV_VARIABLES).refusal);
-	same_variables(&v, &again);
+	CHECK(!w.refusal && w.length == length && !memcmp(payload, front(&out_room), length));
 }
 
 /* Records over random bytes, mostly good ones: the first two bytes of each name are its own. */
@@ -783,7 +786,19 @@ static void fill_variables(struct variables *v)
 		r[TV_ENV_NAME_LENGTH] = one_in(200) ? 0 : 2;
 		r[TV_ENV_VALUE_LENGTH] = below(one_in(8) ? v->length : 12);
 		r[TV_ENV_VALUE_AT] = one_in(200) ? any() : below(v->length - r[TV_ENV_VALUE_LENGTH] + 1);
+		r[TV_ENV_MARK] = !one_in(6) ? TV_ENV_DEFINED : one_in(2) ? TV_ENV_UNDEFINED : any();
+		if (r[TV_ENV_MARK] && !one_in(40))
+			r[TV_ENV_VALUE_LENGTH] = 0;
 	}
+}
+
+/* One of the records is undefined and has bytes of a value. */
+static bool contradicts(const struct variables *v)
+{
+	for (size_t i = 0; i < v->count; i++)
+		if (v->numbers[TV_ENV_NUMBERS * i + TV_ENV_MARK] && v->numbers[TV_ENV_NUMBERS * i + TV_ENV_VALUE_LENGTH])
+			return true;
+	return false;
 }
 
 static void try_env_write(void)
@@ -795,6 +810,7 @@ static void try_env_write(void)
 	fill_variables(&v);
 	w = write_payload(&v, 1024);
 	CHECK(w.refusal != 4);
+	CHECK(!contradicts(&v) || w.refusal == 27 || w.refusal == 20);
 	if (w.refusal)
 		return;
 	memcpy(payload, front(&out_room), w.length);
@@ -1008,8 +1024,19 @@ static void put_variable(struct variables *v, size_t kind, const char *name, con
 	v->length += strlen(name);
 	r[TV_ENV_VALUE_AT] = v->length;
 	r[TV_ENV_VALUE_LENGTH] = length;
+	r[TV_ENV_MARK] = TV_ENV_DEFINED;
 	memcpy(v->bytes + v->length, value, length);
 	v->length += length;
+}
+
+/* A variable that is there or not; what is not there is absent or undefined. */
+static void say_variable(struct variables *v, bool there, size_t kind, const char *name, const uint8_t *value, size_t length)
+{
+	if (!there && one_in(2))
+		return;
+	put_variable(v, kind, name, value, there ? length : 0);
+	if (!there)
+		v->numbers[TV_ENV_NUMBERS * (v->count - 1) + TV_ENV_MARK] = TV_ENV_UNDEFINED;
 }
 
 static uint64_t signed_on[TV_REASON_GRANTED + 1];
@@ -1162,12 +1189,9 @@ static void try_sign_on(const struct profiles *p, const uint8_t *server_seed)
 
 	say_of(&s, u, server_seed);
 	v = (struct variables){.first = TV_ENV_IS};
-	if (s.has_user)
-		put_variable(&v, TV_ENV_VAR, "USER", s.user, s.user_length);
-	if (s.has_seed)
-		put_variable(&v, TV_ENV_USERVAR, "IBMRSEED", s.seed, s.seed_length);
-	if (s.has_offer)
-		put_variable(&v, TV_ENV_USERVAR, "IBMSUBSPW", s.offered, s.offer_length);
+	say_variable(&v, s.has_user, TV_ENV_VAR, "USER", s.user, s.user_length);
+	say_variable(&v, s.has_seed, TV_ENV_USERVAR, "IBMRSEED", s.seed, s.seed_length);
+	say_variable(&v, s.has_offer, TV_ENV_USERVAR, "IBMSUBSPW", s.offered, s.offer_length);
 	w = write_payload(&v, 1024);
 	CHECK(!w.refusal);
 	memcpy(payload, front(&out_room), w.length);
@@ -1355,6 +1379,7 @@ static void tell_counts(void)
 	for (size_t i = 0; i < sizeof reasons; i++)
 		CHECK(signed_on[reasons[i]]);
 	CHECK(absent && absent < counts[ENV_VALUE][0]);
+	CHECK(undefined);
 }
 
 /* fuzz [CALLS [SEED]] */

@@ -182,11 +182,14 @@ static void sha_substitute(void)
 	tv_sha_substitute(token, sizeof token, name, 10, 1, 2, out, sizeof out);
 }
 
+/* A variable; without a value it is undefined. */
 static void put_variable(uint8_t kind, const char *variable, const uint8_t *value, size_t length)
 {
 	payload[payload_length++] = kind;
 	memcpy(payload + payload_length, variable, strlen(variable));
 	payload_length += strlen(variable);
+	if (!value)
+		return;
 	payload[payload_length++] = 1;
 	memcpy(payload + payload_length, value, length);
 	payload_length += length;
@@ -198,7 +201,7 @@ static void fill_payload(const uint8_t *client_seed, size_t seed_length, const u
 	payload_length = 1;
 	for (unsigned i = 0; i < 61; i++) {
 		char variable[] = {(char)('A' + i % 26), (char)('A' + i / 26), 0};
-		put_variable(i & 1 ? TV_ENV_USERVAR : TV_ENV_VAR, variable, name, 6);
+		put_variable(i & 1 ? TV_ENV_USERVAR : TV_ENV_VAR, variable, i % 8 == 7 ? NULL : name, 6);
 	}
 	put_variable(TV_ENV_VAR, "USER", name, 10);
 	put_variable(TV_ENV_USERVAR, "IBMRSEED", client_seed, seed_length);

@@ -108,7 +108,10 @@ extern "C" {
 #define TV_REFUSED_TOO_MANY_VARIABLES 24
 /* The same variable twice. */
 #define TV_REFUSED_REPEATED_VARIABLE 25
-/* A variable record has a kind that is none, or points past its buffer. */
+/*
+ * A variable record has a kind that is none, points past its buffer, or is
+ * undefined and has bytes of a value.
+ */
 #define TV_REFUSED_BAD_VARIABLE_RECORD 27
 
 /* Profile table, tokens, sign-on and response records. */
@@ -494,7 +497,7 @@ extern tv_sent_t tv_option_hear(tv_sides_t sides,
  * Environment strings: payloads of the subnegotiation of NEW-ENVIRON. A list
  * of variable records is a slice of numbers, TV_ENV_NUMBERS for each variable:
  * its kind, place and length of its name in a buffer, place and length of its
- * value.
+ * value, and its mark.
  */
 
 /*
@@ -520,13 +523,22 @@ extern tv_sent_t tv_option_hear(tv_sides_t sides,
 #define TV_ENV_ESC 2
 
 /* Numbers of a variable record, their order, and how many variables at most. */
-#define TV_ENV_NUMBERS 5
+#define TV_ENV_NUMBERS 6
 #define TV_ENV_KIND 0
 #define TV_ENV_NAME_AT 1
 #define TV_ENV_NAME_LENGTH 2
 #define TV_ENV_VALUE_AT 3
 #define TV_ENV_VALUE_LENGTH 4
+#define TV_ENV_MARK 5
 #define TV_ENV_VARIABLES 64
+
+/*
+ * The mark of a variable. One sent without VALUE is undefined, and sign-on
+ * takes it as absent; one with VALUE and nothing after it is defined and empty.
+ * Any mark but TV_ENV_DEFINED reads as undefined.
+ */
+#define TV_ENV_DEFINED 0
+#define TV_ENV_UNDEFINED 1
 
 /* A payload that was read. */
 typedef struct tv_payload {
@@ -538,7 +550,7 @@ typedef struct tv_payload {
 
 /* Where a value stands in a buffer; at and length are 0 where there is none. */
 typedef struct tv_value {
-	uint8_t present; /* 1 or 0 */
+	uint8_t present; /* 1 or 0; an undefined variable is not there */
 	size_t at;
 	size_t length;
 } tv_value_t;
@@ -546,9 +558,10 @@ typedef struct tv_value {
 /*
  * Reads a payload. Names and values go back to back to the front of bytes,
  * without their ESCs, and the variable records to the front of numbers. A
- * variable with no VALUE has an empty value. Room that always suffices: 1,024
+ * variable with no VALUE has the mark TV_ENV_UNDEFINED and no bytes of a value,
+ * with their place right after its name. Room that always suffices: 1,024
  * bytes, and TV_ENV_NUMBERS * TV_ENV_VARIABLES numbers. numbers_length counts
- * numbers, not bytes.
+ * numbers, not bytes. The same kind and name twice is 25, defined or not.
  * Refused by 3; 20; 21 to 24 by the first fault from the left; 25; 4.
  */
 #define TV_STACK_ENV_READ 20480
@@ -558,9 +571,11 @@ extern tv_payload_t tv_env_read(const uint8_t *payload, size_t payload_length,
 
 /*
  * Writes a payload to the front of out: the first byte, then the variables
- * that the records have over bytes, with ESCs where they are needed. Numbers
- * after the last whole record are not looked at. Room that always suffices:
- * 1,024 bytes.
+ * that the records have over bytes, with ESCs where they are needed, and
+ * without VALUE where one is undefined. Given back the first byte, the bytes
+ * and the records that tv_env_read gave, it writes the payload that was read,
+ * byte for byte. Numbers after the last whole record are not looked at. Room
+ * that always suffices: 1,024 bytes.
  * Refused by 20, 27, 21, 24, 25, 3 and 4, each over the whole list first.
  */
 #define TV_STACK_ENV_WRITE 512
@@ -570,9 +585,9 @@ extern tv_written_t tv_env_write(uint8_t first,
 		uint8_t *out, size_t out_length);
 
 /*
- * Where the value stands of the first variable of a kind and name. Never
- * refused. The place is the record's own: records that tv_env_read set keep
- * within bytes, those that a caller made up may not.
+ * Where the value stands of the first variable of a kind and name that is
+ * defined. Never refused. The place is the record's own: records that
+ * tv_env_read set keep within bytes, those that a caller made up may not.
  */
 #define TV_STACK_ENV_VALUE 512
 extern tv_value_t tv_env_value(const uint8_t *bytes, size_t bytes_length,
@@ -739,7 +754,7 @@ typedef struct tv_judged {
 
 /*
  * The verdict on a payload of NEW-ENVIRON, by this session's server seed and
- * the profile table.
+ * the profile table. A variable without VALUE counts as absent.
  * Refused by 35; 30 to 32; 3; 20 to 25.
  */
 #define TV_STACK_VERDICT 24576

@@ -7,6 +7,7 @@ pub mod PayloadRefusals
 pub mod SignonRefusals
 pub mod Sections
 pub mod MadeSignsOn
+pub mod WrittenBack
 pub mod PlaceOrders
 pub mod RoomOrders
 pub mod OrdersHold

@@ -10,7 +10,7 @@ use Rattle.octets.specs.Lent.{Outcome}
 use Rattle.octets.proofs.Choice.{choice}
 use Rattle.telnet.specs.Event.{payloadLimit}
 use Rattle.env.specs.declared.VariableRecord.{VariableRecord}
-use Rattle.env.specs.Variable.{Variable, variable, variableLimit, isFirst, repeated}
+use Rattle.env.specs.Variable.{undefined, defined, Variable, variable, variableLimit, isFirst, repeated}
 use Rattle.env.specs.Fields.{Text, text, broken, Field, nameField, valueField, rowOf}
 use Rattle.env.specs.Read.{Found, variables, fault, addVariable, limited, whole, named, names, expectNoText, variablesOf, Reading, says, notRead, distinct, begun, readingOf}
 use Rattle.env.specs.Write.{Objection, none, against, objection, payloadOf, nameless}
@@ -56,10 +56,10 @@ unfolding names oneOf
 names-by number t k [] = tt
 names-by number t k (valueField x ∷ fs) = t
 names-by number t k (nameField kind x ∷ valueField u ∷ fs) =
-    limited-by k _ (whole-by x _ (named-by _ (λ name. whole-by u _ (λ value. add-by (variable kind name value) _ (names-by valueInValue tt (suc k) fs)))))
-names-by number t k (nameField kind x ∷ []) = limited-by k _ (whole-by x _ (named-by _ (λ name. add-by (variable kind name []) (variables []) tt)))
+    limited-by k _ (whole-by x _ (named-by _ (λ name. whole-by u _ (λ value. add-by (variable kind name (defined value)) _ (names-by valueInValue tt (suc k) fs)))))
+names-by number t k (nameField kind x ∷ []) = limited-by k _ (whole-by x _ (named-by _ (λ name. add-by (variable kind name undefined) (variables []) tt)))
 names-by number t k (nameField kind x ∷ nameField kind₂ u ∷ fs) =
-    limited-by k _ (whole-by x _ (named-by _ (λ name. add-by (variable kind name []) _ (names-by noVariable tt (suc k) (nameField kind₂ u ∷ fs)))))
+    limited-by k _ (whole-by x _ (named-by _ (λ name. add-by (variable kind name undefined) _ (names-by noVariable tt (suc k) (nameField kind₂ u ∷ fs)))))
 
 expect-by : (x : Text) (f : Found) → FoundBy f → FoundBy (expectNoText x f)
 unfolding expectNoText oneOf

@@ -15,7 +15,7 @@ use Rattle.password_des.specs.Des.{folded, userID}
 use Rattle.env.specs.Variable.{IS, isFirst, isKind, among, repeated}
 use Rattle.env.specs.Fields.{rowOf}
 use Rattle.env.specs.Read.{says, notRead, names, expectNoText, variablesOf, distinct, begun, readingOf}
-use Rattle.env.specs.Write.{escaped, writtenVariable, writtenVariables, payloadOf, kindsGood, isEmpty, nameless, objection}
+use Rattle.env.specs.Write.{escaped, writtenValue, writtenVariable, writtenVariables, payloadOf, kindsGood, isEmpty, nameless, objection}
 use Rattle.env.proofs.Rows.{escaped-nil, escaped-plain}
 use Rattle.env.proofs.Limits.{reading-long}
 use Rattle.env.proofs.ReadingBack.{reads-back}
@@ -46,7 +46,7 @@ plain-length zero b h = rw escaped-nil
 plain-length (suc n) b h = rw (escaped-plain b (replicate n b) h) (ap suc (plain-length n b h))
 
 letters-length : (n : ℕ) → length (payloadOf IS (lettersA n)) ≡ 4 + n
-unfolding escaped writtenVariable writtenVariables
+unfolding escaped writtenValue writtenVariable writtenVariables
 letters-length n =
     let e : length (escaped (replicate n 0x41) ++ []) ≡ n = rw append-nil (plain-length n 0x41 (omega arith)) in
     omega arith

@@ -19,11 +19,13 @@ use Rattle.profile_table.specs.Theorems.{FoundIsNamed}
 use Rattle.profile_maker.specs.Theorems.{MadeRecordsAreGood, MadeTablesRead}
 use Rattle.password_check.specs.Theorems.{OwnPasswordGives, OnlyItsLengths}
 use Rattle.signon.specs.Theorems.{VerdictIsItsSentence, NoVerdictIfRefused, OnlyEnabledGranted}
-use Rattle.signon.specs.ReasonTheorems.{ReasonIsFirst, SomeCauseHolds, WordsInOrder, VerdictOfItsReason, GrantedExactly, ConditionsSay}
+use Rattle.signon.specs.ReasonTheorems.{ReasonIsFirst, SomeCauseHolds, WordsInOrder, VerdictOfItsReason, GrantedExactly}
+use Rattle.signon.specs.ReasonTheorems.{UndefinedIsAbsent, ConditionsSay}
 use Rattle.startup.specs.Theorems.{ResponsesAreRight, Figures}
 use Rattle.print_frame.specs.Theorems.{FrameIsItsSentence, TooLongToSay}
 use Rattle.print_ledger.specs.Theorems.{PrintCompleteReadsBack, PrintCompleteIsAFrame, PrintsAreHeardBack}
 use Rattle.claims.specs.MadeSignsOn.{MadeSignsOn}
+use Rattle.claims.specs.WrittenBack.{ReadIsWrittenBack}
 use Rattle.claims.specs.Sections.{DesTokenOfTheSection, DesSubstituteOfTheSection, ShaTokenOfTheSection, ShaSubstituteOfTheSection}
 
 pub record Demand2 : Type 0 where
@@ -78,12 +80,16 @@ pub record Demand2 : Type 0 where
   pub requestTells : RequestTells
   pub receiptTells : ReceiptTells
   pub hearTells : HearTells
-  -- ENVIRONMENT STRINGS, both ways
-  -- "The writer escapes 0 to 3 and always writes VALUE; reading it back gives the same first byte and the same kinds,
-  -- names and values in order."
+  -- ENVIRONMENT STRINGS, both ways, read "with the mark" (change request No. 3)
+  -- "The writer escapes 0 to 3 ..; reading it back gives the same first byte and the same kinds, names and values in
+  -- order", undefined where they were;
   pub variablesReadBack : Env.ReadsBack
-  -- What was read, written again, reads the same.
-  pub variablesReadTheSame : Env.ReadsTheSame
+  -- and what was read, written, is the payload, byte for byte:
+  pub payloadsWrittenBack : Env.WritesBack
+  -- so the writer, given what the reader left, writes the payload.
+  pub readIsWrittenBack : ReadIsWrittenBack
+  -- "Repeats still count it, so 25 is unchanged", and so is every other number of the reader.
+  pub readsAsBefore : Env.ReadsAsBefore
   -- "Names and values without their ESCs go, back to back, into a lent buffer; their places are set in a lent list of
   -- variable records": the two hold the variables again.
   pub variablesHeldAgain : Env.HoldsAgain
@@ -138,6 +144,8 @@ pub record Demand2 : Type 0 where
   -- "0002, if VAR USER is .. not in the table; 0003, not enabled": such a profile is never granted, whatever is
   -- offered.
   pub onlyEnabledGranted : OnlyEnabledGranted
+  -- "Verdicts and reasons treat an undefined variable as absent" (change request No. 3).
+  pub undefinedIsAbsent : UndefinedIsAbsent
   -- REASONS (change request No. 1)
   -- "The reason given is proved to be the first that holds in that order",
   pub reasonIsFirst : ReasonIsFirst

@@ -7,4 +7,5 @@ pub mod Demand3
 pub mod Worked
 pub mod Others
 pub mod MadeSignsOn
+pub mod WrittenBack
 pub mod Orders

@@ -1,7 +1,7 @@
 -- Definitions mean what they are named after, and what follows from them that the papers say besides.
 use Rattle.octets.specs.Same.{SameIsEqual}
 use Rattle.words.specs.Padding.{FewestZeroBits}
-use Rattle.env.specs.Theorems.{IsBoth, AmongIsOccurs, RepeatedIsTwice}
+use Rattle.env.specs.Theorems.{IsBoth, AmongIsOccurs, RepeatedIsTwice, LookupPassesOver}
 use Rattle.env.specs.Boundaries.{boundaries, AllRead}
 use Rattle.env_search.specs.Theorems.{FindsTheValue, AbsentWhereNone}
 use Rattle.names.specs.Theorems.{OwnEbcdic, Apart, StrictAndTotal}
@@ -20,9 +20,11 @@ pub record Others : Type 0 where
   pub repeatedIsTwice : RepeatedIsTwice
   -- Payloads at the boundaries between refusals.
   pub boundariesRead : AllRead boundaries
-  -- A look-up finds the value of the first such variable, and nothing exactly where there is none.
+  -- A look-up finds the value of the first such variable that is defined, and nothing exactly where there is none; so
+  -- it passes over undefined ones.
   pub findsTheValue : FindsTheValue
   pub absentWhereNone : AbsentWhereNone
+  pub lookupPassesOver : LookupPassesOver
   -- The bytes of names have EBCDIC of their own, and no two the same.
   pub ownEbcdic : OwnEbcdic
   pub apart : Apart

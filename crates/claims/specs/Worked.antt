@@ -10,7 +10,7 @@ use Rattle.refusal.specs.Refusal.{cutShort, payloadTooLong, badCommand, notIsOr
 use Rattle.octets.specs.Ascii.{ascii}
 use Rattle.names.specs.Ebcdic.{ebcdicOf}
 use Rattle.password_des.specs.Des.{SHIFT-RESULT, userID, RDrSEQ}
-use Rattle.env.specs.Variable.{Variable, variable, IS, VAR}
+use Rattle.env.specs.Variable.{defined, Variable, variable, IS, VAR}
 use Rattle.env.specs.Write.{escaped, payloadOf}
 use Rattle.env.specs.Read.{Reading, says, notRead, readingOf}
 use Rattle.telnet.specs.Event.{run, subnegotiation, iac, sb, se}
@@ -78,7 +78,7 @@ AllHold (c ∷ cs) = Holds c × AllHold cs
 
 -- VAR A with a value of n letters A: written, 4 + n bytes
 abbrev pub lettersA : ℕ → List Variable
-lettersA n = variable VAR (ascii "A") (replicate n 0x41) ∷ []
+lettersA n = variable VAR (ascii "A") (defined (replicate n 0x41)) ∷ []
 
 -- 255 250 24, n letters A, 255 240
 abbrev pub subnegotiationOf : ℕ → List ℕ

@@ -9,4 +9,4 @@ use Rattle.octets.specs.Same.{same}
 pub boundaries-read : AllRead boundaries
 unfolding isFirst same is among repeated joins stands escapes startsName startsValue rowOf addVariable limited whole named names expectNoText variablesOf distinct begun readingOf several severalThen
 boundaries-read =
-    (refl, (refl, (refl, (refl, (refl, (refl, (refl, (refl, (refl, (refl, (refl, (refl, (refl, (refl, (refl, (refl, (refl, (refl, (refl, (refl, (refl, (refl, (refl, (refl, (refl, (refl, tt))))))))))))))))))))))))))
+    (refl, (refl, (refl, (refl, (refl, (refl, (refl, (refl, (refl, (refl, (refl, (refl, (refl, (refl, (refl, (refl, (refl, (refl, (refl, (refl, (refl, (refl, (refl, (refl, (refl, (refl, (refl, (refl, tt))))))))))))))))))))))))))))

@@ -8,7 +8,7 @@ use lib.Dec.{leb, ltb}
 use Rattle.refusal.specs.Refusal.{noVariable, badEscape, valueInValue, tooManyVariables}
 use Rattle.octets.proofs.Choice.{choice, choice₂}
 use Rattle.octets.proofs.Order.{below-or-above}
-use Rattle.env.specs.Variable.{Variable, variable, VAR, ESC, USERVAR, variableLimit}
+use Rattle.env.specs.Variable.{undefined, defined, Variable, variable, VAR, ESC, USERVAR, variableLimit}
 use Rattle.env.specs.Fields.{Text, text, broken, Field, nameField, valueField, Row, row, joins, stands}
 use Rattle.env.specs.Fields.{escapes, startsName, startsValue, rowOf}
 use Rattle.env.specs.Read.{Found, variables, fault, addVariable, limited, whole, named, names, expectNoText}
@@ -108,7 +108,7 @@ module _ (N : ℕ → Type 0) (C : Type 0) (M : ℕ → Type 0) (same : (n : ℕ
   -- a name with nothing after it, and whatever is there instead
   alone : (t : Text) (number k kind : ℕ) (y : Row)
       → (k < variableLimit
-      → Follows (whole t (named (λ name. variables (variable kind name [] ∷ [])))) (fromName number k kind y))
+      → Follows (whole t (named (λ name. variables (variable kind name undefined ∷ [])))) (fromName number k kind y))
       → Follows (fromName number k kind (row t [])) (fromName number k kind y)
   unfolding names addVariable
   alone t number k kind y h =
@@ -130,9 +130,9 @@ module _ (N : ℕ → Type 0) (C : Type 0) (M : ℕ → Type 0) (same : (n : ℕ
       in-name [] (text bs) q number k kind = name bs q number k kind
       in-name [] broken q number k kind = in-limited k _ _ (same badEscape)
       in-name (nameField kind₂ u ∷ fs) t q number k kind = opened k t _ _ λ b bs.
-          adds (variable kind (b ∷ bs) []) _ _ (in-name fs u q noVariable (suc k) kind₂)
+          adds (variable kind (b ∷ bs) undefined) _ _ (in-name fs u q noVariable (suc k) kind₂)
       in-name (valueField u ∷ fs) t q number k kind = opened k t _ _ λ b bs.
-          in-value fs u q (suc k) (variable kind (b ∷ bs))
+          in-value fs u q (suc k) (λ value. variable kind (b ∷ bs) (defined value))
 
       in-value : (fs : List Field) (t : Text) → Q (lastName fs broken) → (k : ℕ) (v : List ℕ → Variable)
           → Follows (fromValue k v (glued fs t x)) (fromValue k v (glued fs t y))
@@ -169,7 +169,7 @@ module _ (N : ℕ → Type 0) (C : Type 0) (M : ℕ → Type 0) (same : (n : ℕ
       (λ bs k v. rw (prefixed-end bs) (λ c. brings c .value bs k v)) (r .fields) (r .front) bare (λ e. absurd (some e))
     where
       name : (bs : List ℕ) → (text bs ≡ text [] → N noVariable → ⊥) → (number k kind : ℕ) → k < variableLimit
-          → Follows (named (λ name. variables (variable kind name [] ∷ [])) bs) (fromName number k kind (prefixed bs y))
+          → Follows (named (λ name. variables (variable kind name undefined ∷ [])) bs) (fromName number k kind (prefixed bs y))
       name [] q number k kind room n = absurd (q refl n)
       name (b ∷ bs) q number k kind room c = brings c .name b bs number k kind room
 

@@ -6,6 +6,9 @@ pub mod Repeats
 pub mod Sound
 pub mod Short
 pub mod ReadingBack
+pub mod WritingBack
+pub mod Undefined
+pub mod AsBefore
 pub mod Boundary
 pub mod Longer
 pub mod Following

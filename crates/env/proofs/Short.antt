@@ -11,11 +11,11 @@ use Rattle.refusal.specs.Refusal.{noVariable}
 use Rattle.octets.proofs.Choice.{choice}
 use Rattle.octets.proofs.Order.{below-or-above}
 use Rattle.telnet.specs.Event.{payloadLimit}
-use Rattle.env.specs.Variable.{Variable, variable, variableLimit, isFirst, repeated}
+use Rattle.env.specs.Variable.{undefined, defined, Variable, variable, variableLimit, isFirst, repeated}
 use Rattle.env.specs.Fields.{Text, text, broken, Field, nameField, valueField, Row, row, joins, stands, escapes, startsName, startsValue, rowOf}
 use Rattle.env.specs.Read.{Found, variables, fault, addVariable, limited, whole, named, names, expectNoText, variablesOf}
 use Rattle.env.specs.Read.{Reading, says, notRead, distinct, begun, readingOf}
-use Rattle.env.specs.Numbers.{packed}
+use Rattle.env.specs.Numbers.{bytesOf, packed}
 use Rattle.env.proofs.Limits.{reading-short, reading-long}
 
 -- the bytes of texts
@@ -57,14 +57,16 @@ wider : (n m : ℕ) (found : Found) → n ≤ m → Small n found → Small m fo
 wider n m (variables vs) h s = omega arith
 wider n m (fault k) h s = tt
 
-small-before : (v : Variable) (found : Found) (n : ℕ) → Small n found → Small (length (v .name) + (length (v .value) + n)) (addVariable v found)
+small-before : (v : Variable) (found : Found) (n : ℕ) → Small n found
+    → Small (length (v .name) + (length (bytesOf (v .value)) + n)) (addVariable v found)
 unfolding addVariable packed
 small-before v (variables vs) n h =
-    omega (arith, length-append (v .name) (v .value ++ packed vs), length-append (v .value) (packed vs))
+    let value = bytesOf (v .value) in
+    omega (arith, length-append (v .name) (value ++ packed vs), length-append value (packed vs))
 small-before v (fault m) n h = tt
 
-small-alone : (kind : ℕ) (name : List ℕ) (found : Found) (n : ℕ) → Small n found → Small (length name + n) (addVariable (variable kind name []) found)
-unfolding addVariable packed
+small-alone : (kind : ℕ) (name : List ℕ) (found : Found) (n : ℕ) → Small n found → Small (length name + n) (addVariable (variable kind name undefined) found)
+unfolding addVariable packed bytesOf
 small-alone kind name (variables vs) n h = omega (arith, length-append name (packed vs))
 small-alone kind name (fault m) n h = tt
 
@@ -73,17 +75,17 @@ unfolding limited
 small-limited k n found h = choice (Small n) (ltb k variableLimit) (λ _. h) (λ _. tt)
 
 names-small : (number k : ℕ) (fs : List Field) → Small (fieldsSize fs) (names number k fs)
-unfolding names whole named packed
+unfolding names whole named packed bytesOf
 names-small number k [] = omega arith
 names-small number k (valueField t ∷ fs) = tt
 names-small number k (nameField kind broken ∷ valueField u ∷ fs) = small-limited k _ (fault _) tt
 names-small number k (nameField kind (text []) ∷ valueField u ∷ fs) = small-limited k _ (fault _) tt
 names-small number k (nameField kind (text (b ∷ bs)) ∷ valueField broken ∷ fs) = small-limited k _ (fault _) tt
 names-small number k (nameField kind (text (b ∷ bs)) ∷ valueField (text v) ∷ fs) =
-    small-limited k _ _ (small-before (variable kind (b ∷ bs) v) _ (fieldsSize fs) (names-small _ (suc k) fs))
+    small-limited k _ _ (small-before (variable kind (b ∷ bs) (defined v)) _ (fieldsSize fs) (names-small _ (suc k) fs))
 names-small number k (nameField kind broken ∷ []) = small-limited k _ (fault _) tt
 names-small number k (nameField kind (text []) ∷ []) = small-limited k _ (fault _) tt
-names-small number k (nameField kind (text (b ∷ bs)) ∷ []) = small-limited k _ _ (small-before (variable kind (b ∷ bs) []) (variables []) 0 (omega arith))
+names-small number k (nameField kind (text (b ∷ bs)) ∷ []) = small-limited k _ _ (small-before (variable kind (b ∷ bs) undefined) (variables []) 0 (omega arith))
 names-small number k (nameField kind broken ∷ nameField kind₂ u ∷ fs) = small-limited k _ (fault _) tt
 names-small number k (nameField kind (text []) ∷ nameField kind₂ u ∷ fs) = small-limited k _ (fault _) tt
 names-small number k (nameField kind (text (b ∷ bs)) ∷ nameField kind₂ u ∷ fs) =

@@ -13,7 +13,7 @@ use denote.Floats.{passes}
 use Rattle.octets.proofs.Choice.{choice}
 use Rattle.octets.proofs.Order.{below-or-above}
 use Rattle.telnet.specs.Event.{payloadLimit}
-use Rattle.env.specs.Variable.{Variable, variable, variableLimit, isFirst, isKind, repeated}
+use Rattle.env.specs.Variable.{undefined, defined, Variable, variable, variableLimit, isFirst, isKind, repeated}
 use Rattle.env.specs.Fields.{Text, text, broken, Field, nameField, valueField, Row, stands, escapes, startsName, startsValue, rowOf}
 use Rattle.env.specs.Read.{Found, variables, fault, addVariable, limited, whole, named, names, expectNoText, variablesOf}
 use Rattle.env.specs.Read.{Reading, says, notRead, distinct, begun, readingOf}
@@ -26,7 +26,8 @@ pub record Sound (k : ℕ) (vs : List Variable) : Type 0 where
   pub full : nameless vs ≡ false
   pub few : k + length vs ≤ variableLimit
 
-neither : (s t : Bool) → (s || t) ≡ false → (s ≡ false) × (t ≡ false)
+-- neither of two tests
+pub neither : (s t : Bool) → (s || t) ≡ false → (s ≡ false) × (t ≡ false)
 neither true t e = (e, cc)
 neither false t e = (refl, e)
 
@@ -110,11 +111,11 @@ finds-names number k [] i g h = finds-none k h
 finds-names number k (valueField t ∷ fs) i g h = i
 finds-names number k (nameField kind t ∷ valueField u ∷ fs) i g h = finds-opened k t _ λ b bs room.
     finds-whole k u _ λ cs.
-    finds-before k (variable kind (b ∷ bs) cs) _ (g .0) refl (finds-names _ (suc k) fs (omega arith) (g .1) room)
+    finds-before k (variable kind (b ∷ bs) (defined cs)) _ (g .0) refl (finds-names _ (suc k) fs (omega arith) (g .1) room)
 finds-names number k (nameField kind t ∷ []) i g h = finds-opened k t _ λ b bs room.
-    finds-before k (variable kind (b ∷ bs) []) (variables []) (g .0) refl (finds-none (suc k) room)
+    finds-before k (variable kind (b ∷ bs) undefined) (variables []) (g .0) refl (finds-none (suc k) room)
 finds-names number k (nameField kind t ∷ nameField kind₂ u ∷ fs) i g h = finds-opened k t _ λ b bs room.
-    finds-before k (variable kind (b ∷ bs) []) _ (g .0) refl
+    finds-before k (variable kind (b ∷ bs) undefined) _ (g .0) refl
     (finds-names _ (suc k) (nameField kind₂ u ∷ fs) (omega arith) (g .1) room)
 
 finds-unled : (t : Text) (found : Found) → Finds 0 found → Finds 0 (expectNoText t found)

@@ -4,7 +4,7 @@ use Prim.Native.Nat.{ℕ, suc}
 use mathlib.Core.List.{List, [], _∷_}
 use lib.Dec.{ltb}
 use lib.ListN.{length}
-use Rattle.env.specs.Variable.{Variable, variable, variableLimit, isFirst, repeated}
+use Rattle.env.specs.Variable.{undefined, defined, Variable, variable, variableLimit, isFirst, repeated}
 use Rattle.env.specs.Fields.{Text, text, broken, Field, nameField, valueField, Row, rowOf}
 use Rattle.telnet.specs.Event.{payloadLimit}
 use Rattle.refusal.specs.Refusal.{payloadTooLong, notIsOrInfo, noVariable, badEscape, valueInValue, tooManyVariables, repeatedVariable}
@@ -34,18 +34,18 @@ unfoldable pub named : (List ℕ → Found) → List ℕ → Found
 named found [] = fault noVariable
 named found (b ∷ bs) = found (b ∷ bs)
 
--- The variables of fields, where there are k already. A VALUE where a name should be is refused by the number given:
--- 21 before the first variable and after one without a value, 23 after a value. Else a name is there, and after it
--- its value, nothing more, or the next name; from left to right its 24, 22 and 21 come first, then its value's 22, then
--- what is after it.
+-- The variables of fields, where there are k already. A VALUE where a name should be is refused by the number given: 21
+-- before the first variable and after one without a value, 23 after a value. Else a name is there, and after it its
+-- value, or nothing more or the next name, and it is undefined; from left to right its 24, 22 and 21 come first, then
+-- its value's 22, then what is after it.
 unfoldable pub names : (number k : ℕ) → List Field → Found
 names number k [] = variables []
 names number k (valueField t ∷ fs) = fault number
 names number k (nameField kind t ∷ valueField u ∷ fs) =
-    limited k (whole t (named (λ name. whole u (λ value. addVariable (variable kind name value) (names valueInValue (suc k) fs)))))
-names number k (nameField kind t ∷ []) = limited k (whole t (named (λ name. addVariable (variable kind name []) (variables []))))
+    limited k (whole t (named (λ name. whole u (λ value. addVariable (variable kind name (defined value)) (names valueInValue (suc k) fs)))))
+names number k (nameField kind t ∷ []) = limited k (whole t (named (λ name. addVariable (variable kind name undefined) (variables []))))
 names number k (nameField kind t ∷ nameField kind₂ u ∷ fs) =
-    limited k (whole t (named (λ name. addVariable (variable kind name []) (names noVariable (suc k) (nameField kind₂ u ∷ fs)))))
+    limited k (whole t (named (λ name. addVariable (variable kind name undefined) (names noVariable (suc k) (nameField kind₂ u ∷ fs)))))
 
 -- Where a variable is expected there is no text, nor an ESC. Decides 21 for what comes before the first.
 unfoldable pub expectNoText : Text → Found → Found

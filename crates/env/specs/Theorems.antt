@@ -1,29 +1,41 @@
--- What is proved of the format: reading undoes writing, records hold what was recorded, the tests of kinds and names
--- say what is meant by them, and the first fault decides. The proofs are in `proofs/ReadingBack.antt`,
--- `proofs/Holding.antt`, `proofs/Repeats.antt` and `proofs/Faults.antt`.
+-- What is proved of the format: reading undoes writing and writing reading, records hold what was recorded, the tests
+-- of kinds and names say what is meant by them, a look-up passes over undefined variables and the test for 25 does not,
+-- and the first fault decides. The proofs are in `proofs/ReadingBack.antt`, `proofs/WritingBack.antt`,
+-- `proofs/Holding.antt`, `proofs/Repeats.antt`, `proofs/Undefined.antt`, `proofs/AsBefore.antt` and
+-- `proofs/Faults.antt`.
 use mathlib.Core.Path.{_≡_}
 use mathlib.Core.List.{List, [], _∷_, _++_}
 use mathlib.Core.Logic.{_↔_, _⊎_}
 use Prim.Native.Nat.{ℕ, _+_, _≤_, _<_}
 use lib.Dec.{T}
 use lib.ListN.{length}
-use Rattle.env.specs.Variable.{Variable, VAR, VALUE, ESC, USERVAR, is, among, repeated}
+use Rattle.env.specs.Variable.{Variable, VAR, VALUE, ESC, USERVAR, is, among, repeated, definedOnes, lookup}
 use Rattle.env.specs.Read.{readingOf, says, notRead}
 use Rattle.env.specs.Write.{payloadOf, kindsGood, Accepted}
 use Rattle.env.specs.Numbers.{packed, recorded, variablesHeld, placed}
-use Rattle.telnet.specs.Event.{payloadLimit}
+use Rattle.env.specs.Before.{withoutMark, readingBefore}
 use Rattle.octets.specs.Lent.{overwrite}
 
--- What the writer accepts and writes is read back: the same first byte and the same kinds, names and values in order.
+-- What the writer accepts and writes is read back: the same first byte and the same kinds, names and values in order,
+-- undefined where they were undefined.
 abbrev pub ReadsBack : Type 0
 ReadsBack = (first : ℕ) (vs : List Variable) → Accepted first vs → readingOf (payloadOf first vs) ≡ says first vs
 
--- What is read without refusal, written again, reads the same. Written again it has VALUE for each variable, and so may
--- be too long: only then does the writer object to it.
-abbrev pub ReadsTheSame : Type 0
-ReadsTheSame =
+-- What is read without refusal the writer accepts, and writing it gives the payload, byte for byte.
+abbrev pub WritesBack : Type 0
+WritesBack =
     (payload : List ℕ) (first : ℕ) (vs : List Variable) → readingOf payload ≡ says first vs
-    → length (payloadOf first vs) ≤ payloadLimit → Accepted first vs × (readingOf (payloadOf first vs) ≡ says first vs)
+    → Accepted first vs × (payloadOf first vs ≡ payload)
+
+-- "A name without VALUE isn't there": a look-up finds what it finds among the defined variables alone.
+abbrev pub LookupPassesOver : Type 0
+LookupPassesOver = (kind : ℕ) (name : List ℕ) (vs : List Variable) → lookup kind name vs ≡ lookup kind name (definedOnes vs)
+
+-- "Repeats still count it, so 25 is unchanged": for every payload the reading is the one before change request No. 3,
+-- but that a variable without VALUE is undefined where it had an empty value. So 25 is given exactly where it was, and
+-- each other number.
+abbrev pub ReadsAsBefore : Type 0
+ReadsAsBefore = (payload : List ℕ) → withoutMark (readingOf payload) ≡ readingBefore payload
 
 -- Variables that are packed into a buffer, and recorded, are held again, the same and in order; and where they have
 -- kinds, they are placed.

@@ -1,12 +1,12 @@
--- Writing a payload (specification, "Environment strings": the writer escapes 0 to 3 and always writes VALUE; and the
--- order of its refusals).
+-- Writing a payload (specification, "Environment strings": the writer escapes 0 to 3, and the order of its refusals; it
+-- "always writes VALUE" but for change request No. 3: "the writer leaves VALUE out for" an undefined variable).
 use mathlib.Core.Path.{_≡_}
 use mathlib.Core.Bool.{Bool, true, false, _||_, _&&_}
 use mathlib.Core.List.{List, [], _∷_, _++_}
 use Prim.Native.Nat.{ℕ}
 use lib.Dec.{T, leb, ltb}
 use lib.ListN.{length}
-use Rattle.env.specs.Variable.{Variable, VALUE, ESC, isFirst, isKind, variableLimit, repeated}
+use Rattle.env.specs.Variable.{Value, undefined, defined, Variable, VALUE, ESC, isFirst, isKind, variableLimit, repeated}
 use Rattle.telnet.specs.Event.{payloadLimit}
 use Rattle.refusal.specs.Refusal.{payloadTooLong, noVariable, tooManyVariables, repeatedVariable}
 use Rattle.octets.specs.Choice.{if_then_else_}
@@ -16,9 +16,14 @@ unfoldable pub escaped : List ℕ → List ℕ
 escaped [] = []
 escaped (b ∷ bs) = if leb b 3 then ESC ∷ b ∷ escaped bs else b ∷ escaped bs
 
+-- VALUE and a value with its ESCs; nothing where it is undefined
+unfoldable pub writtenValue : Value → List ℕ
+writtenValue undefined = []
+writtenValue (defined value) = VALUE ∷ escaped value
+
 -- a variable
 unfoldable pub writtenVariable : Variable → List ℕ
-writtenVariable v = v .kind ∷ (escaped (v .name) ++ VALUE ∷ escaped (v .value))
+writtenVariable v = v .kind ∷ (escaped (v .name) ++ writtenValue (v .value))
 
 -- variables in their order
 unfoldable pub writtenVariables : List Variable → List ℕ

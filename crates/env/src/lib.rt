@@ -16,13 +16,14 @@ pub const ESC: u8 = 2;
 
 pub const USERVAR: u8 = 3;
 
-// A variable record: VAR or USERVAR, and where its name and its value are in a buffer.
+// A variable record: VAR or USERVAR, where its name and its value are in a buffer, and the mark of its value.
 pub struct VariableRecord {
     pub kind: usize,
     pub name_at: usize,
     pub name_length: usize,
     pub value_at: usize,
     pub value_length: usize,
+    pub mark: usize,
 }
 
 // The kind of a record.
@@ -30,12 +31,17 @@ pub const VAR_KIND: usize = VAR as usize;
 
 pub const USERVAR_KIND: usize = USERVAR as usize;
 
+// The mark of a record: whether its variable is defined. Any mark but DEFINED reads as undefined.
+pub const DEFINED: usize = 0;
+
+pub const UNDEFINED: usize = 1;
+
 // The most bytes of a payload, and the most variables.
 pub const PAYLOAD_LIMIT: usize = telnet::PAYLOAD_LIMIT;
 
 pub const VARIABLE_LIMIT: usize = 64;
 
 // How many numbers a record takes in a list of numbers, and the most that a payload's records take.
-pub const RECORD_WIDTH: usize = 5;
+pub const RECORD_WIDTH: usize = 6;
 
 pub const LIST_LIMIT: usize = RECORD_WIDTH * VARIABLE_LIMIT;

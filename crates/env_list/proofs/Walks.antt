@@ -66,7 +66,7 @@ loan κ n b o γ = fbor κ (Held T.the-row n b o γ)
 -- the context while record i of ys is out of the open borrow
 abbrev pub Out : {M : Type 1} {𝓤 : URA M} → Lft → Share → GName → List VariableRecord → ℕ → VariableRecord → ℕ → ℕ → List (Item 𝓤) → List (Item 𝓤)
 Out κ q γ ys i d b o Γ =
-    ‵ (cellAt fullShare (T.the-row .mir) (vals (getD ys i d)) b (place 40 o i)) ∷ ‵ (T.the-row .own (getD ys i d) (vals (getD ys i d)))
+    ‵ (cellAt fullShare (T.the-row .mir) (vals (getD ys i d)) b (place 48 o i)) ∷ ‵ (T.the-row .own (getD ys i d) (vals (getD ys i d)))
     ∷ ‵ (others (shares T.the-row) fullShare ys i b o)
     ∷ ‵ (fobor κ q (Held T.the-row (length ys) b o γ)) ∷ ‵ (says-list γ ys) ∷ ‵ (fauth γ (codedHoleys T.the-row .code (heres T.the-row ys))) ∷ Γ
 
@@ -88,10 +88,10 @@ module _ {M : Type 1} {𝓤 : URA M} {H : Heap 𝓤} {A : Atoms 𝓤} {K : Type 
       Γ (runs C Λ E (seq (assign (at-place i []) rv) rest) Q)
   lets t n e rv ty = assigns t rv (from t (stop t)) (init t n e ty)
 
-  -- a record is 40 bytes: the pointer to record i is `i * 40` after the slice's
-  pub offset-to : K → {E : Env 𝓤 H} {s t : Operand} {b o : ℕ} (i : ℕ) → Opd K W Γ E s (vptr b o) → Opd K W Γ E t (vint w64 (i * 40))
-      → Rv K W Γ E (op2 offset s t) (vptr b (place 40 o i))
-  offset-to k {E} {s} {t} {b} {o} i first second = subst (λ (m : ℕ). Rv K W Γ E (op2 offset s t) (vptr b m)) (sym (place-is 40 o i)) (bin k first second tt)
+  -- a record is 48 bytes: the pointer to record i is `i * 48` after the slice's
+  pub offset-to : K → {E : Env 𝓤 H} {s t : Operand} {b o : ℕ} (i : ℕ) → Opd K W Γ E s (vptr b o) → Opd K W Γ E t (vint w64 (i * 48))
+      → Rv K W Γ E (op2 offset s t) (vptr b (place 48 o i))
+  offset-to k {E} {s} {t} {b} {o} i first second = subst (λ (m : ℕ). Rv K W Γ E (op2 offset s t) (vptr b m)) (sym (place-is 48 o i)) (bin k first second tt)
 
   -- the slice at the list zs has the machine value that it had at ys
   pub closes : K → {G : Goal 𝓤 H} {κ : Lft} {γ : GName} (b o : ℕ) (ys zs : List VariableRecord) → length zs ≡ length ys → Room T.the-row (length ys)
@@ -106,7 +106,7 @@ module _ {M : Type 1} {𝓤 : URA M} {H : Heap 𝓤} {A : Atoms 𝓤} {K : Type 
   pub stores : K → {C : Calls 𝓤 H} {Λ : Loops 𝓤 H} {E : Env 𝓤 H} {Q : Post 𝓤 H} {p : Place} {x : Operand} {rest : Body} {κ : Lft} {q : Share}
       {γ : GName} (ys : List VariableRecord) (i : ℕ) (v : VariableRecord) (b o : ℕ)
       → i < length ys → Is T.the-row v (vals v)
-      → Opd K W (Out κ q γ ys i v b o Γ) E x (T′.lowered v) → Finds K W (Out κ q γ ys i v b o Γ) E p (T′.mir, b, place 40 o i)
+      → Opd K W (Out κ q γ ys i v b o Γ) E x (T′.lowered v) → Finds K W (Out κ q γ ys i v b o Γ) E p (T′.mir, b, place 48 o i)
       → Step K W (‵ (says-list γ (set ys i v)) ∷ ‵ (loan κ (length (set ys i v)) b o γ) ∷ ‵ (flft κ q) ∷ Γ) (runs C Λ E rest Q)
       (‵ (says-list γ ys) ∷ ‵ (loan κ (length ys) b o γ) ∷ ‵ (flft κ q) ∷ Γ) (runs C Λ E (seq (assign p (rvOpd x)) rest) Q)
   stores t ys i v b o l g read found = step (λ s.

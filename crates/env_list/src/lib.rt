@@ -30,6 +30,7 @@ pub fn get(records: &[VariableRecord], i: usize) -> VariableRecord
         name_length: 0,
         value_at: 0,
         value_length: 0,
+        mark: 0,
     }
 }
 

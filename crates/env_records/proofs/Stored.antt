@@ -16,7 +16,7 @@ next : (l : List ℕ) (k j b : ℕ) (y : List ℕ) → k + j + suc (length y) �
 next l k j b y h = rw (← add-assoc) (sym (overwrite-cons l (k + j) b y h))
 
 pub record-stored : (l : List ℕ) (i : ℕ) (v : VariableRecord) → i + recordWidth ≤ length l
-    → set (set (set (set (set l i (v .kind)) (i + 1) (v .«name_at»)) (i + 2) (v .«name_length»)) (i + 3) (v .«value_at»)) (i + 4) (v .«value_length»)
+    → set (set (set (set (set (set l i (v .kind)) (i + 1) (v .«name_at»)) (i + 2) (v .«name_length»)) (i + 3) (v .«value_at»)) (i + 4) (v .«value_length»)) (i + 5) (v .mark)
     ≡ overwrite l i (numbersOf v)
 record-stored l i v h =
     let a = v .kind in
@@ -24,9 +24,11 @@ record-stored l i v h =
     let c = v .«name_length» in
     let d = v .«value_at» in
     let e = v .«value_length» in
+    let m = v .mark in
     sym (
-    sym (overwrite-cons l i a (b ∷ c ∷ d ∷ e ∷ []) (omega arith))
-    ∙ next (set l i a) i 1 b (c ∷ d ∷ e ∷ []) (simp length-set (omega arith))
-    ∙ next (set (set l i a) (i + 1) b) i 2 c (d ∷ e ∷ []) (simp length-set (omega arith))
-    ∙ next (set (set (set l i a) (i + 1) b) (i + 2) c) i 3 d (e ∷ []) (simp length-set (omega arith))
-    ∙ overwrite-one (set (set (set (set l i a) (i + 1) b) (i + 2) c) (i + 3) d) (i + 4) e (simp length-set (omega arith)))
+    sym (overwrite-cons l i a (b ∷ c ∷ d ∷ e ∷ m ∷ []) (omega arith))
+    ∙ next (set l i a) i 1 b (c ∷ d ∷ e ∷ m ∷ []) (simp length-set (omega arith))
+    ∙ next (set (set l i a) (i + 1) b) i 2 c (d ∷ e ∷ m ∷ []) (simp length-set (omega arith))
+    ∙ next (set (set (set l i a) (i + 1) b) (i + 2) c) i 3 d (e ∷ m ∷ []) (simp length-set (omega arith))
+    ∙ next (set (set (set (set l i a) (i + 1) b) (i + 2) c) (i + 3) d) i 4 e (m ∷ []) (simp length-set (omega arith))
+    ∙ overwrite-one (set (set (set (set (set l i a) (i + 1) b) (i + 2) c) (i + 3) d) (i + 4) e) (i + 5) m (simp length-set (omega arith)))

@@ -9,15 +9,17 @@ ghost use Rattle.octets.specs.Promise.{putAt};
 use env::RECORD_WIDTH;
 use env::VariableRecord;
 
-// The record of a kind, and of the places and lengths of a name and a value: what makes a record of numbers calls it.
+// The record of a kind, of the places and lengths of a name and a value, and of a mark: what makes a record of numbers
+// calls it.
 pub fn record_of(
     kind: usize,
     name_at: usize,
     name_length: usize,
     value_at: usize,
     value_length: usize,
+    mark: usize,
 ) -> VariableRecord
-    ensures { λ r. ⌜ r ≡ variableRecord kind «name_at» «name_length» «value_at» «value_length» ⌝ }
+    ensures { λ r. ⌜ r ≡ variableRecord kind «name_at» «name_length» «value_at» «value_length» mark ⌝ }
 {
     VariableRecord {
         kind: kind,
@@ -25,6 +27,7 @@ pub fn record_of(
         name_length: name_length,
         value_at: value_at,
         value_length: value_length,
+        mark: mark,
     }
 }
 
@@ -33,7 +36,7 @@ pub fn record_at(numbers: &[usize], i: usize) -> VariableRecord
     ensures { λ r. ⌜ r ≡ recordAt (now (numbers .entry)) i ⌝ }
 {
     if i >= numbers.len() / RECORD_WIDTH {
-        return record_of(0, 0, 0, 0, 0);
+        return record_of(0, 0, 0, 0, 0, 0);
     }
     let at = RECORD_WIDTH * i;
     record_of(
@@ -42,6 +45,7 @@ pub fn record_at(numbers: &[usize], i: usize) -> VariableRecord
         numbers[at + 2],
         numbers[at + 3],
         numbers[at + 4],
+        numbers[at + 5],
     )
 }
 
@@ -58,6 +62,7 @@ pub fn set_record(numbers: &mut [usize], i: usize, v: VariableRecord) -> bool
     numbers[k + 2] = v.name_length;
     numbers[k + 3] = v.value_at;
     numbers[k + 4] = v.value_length;
+    numbers[k + 5] = v.mark;
     true
 }
 

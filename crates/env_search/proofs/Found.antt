@@ -1,31 +1,36 @@
--- What a look-up finds is the value of the first variable of that kind and name, and it finds nothing exactly where
--- there is none. Assumes nothing.
+-- What a look-up finds is the value of the first variable of that kind and name that is defined, and it finds nothing
+-- exactly where there is none. Assumes nothing.
 use mathlib.Core.Path.{_≡_, refl, sym, ap, _∙_}
-use mathlib.Core.Bool.{Bool, true, false, _||_}
+use mathlib.Core.Bool.{Bool, true, false, _||_, _&&_}
 use mathlib.Core.List.{List, [], _∷_, map}
 use Prim.Native.Nat.{ℕ}
+use lib.Dec.{eqb}
 use Rattle.env_search.specs.declared.ValuePlace.{ValuePlace}
 use Rattle.env_search.specs.declared.ValuePlace.the-variants.{Absent, At}
-use Rattle.env_search.specs.Places.{placeIn, placeOf}
+use Rattle.env_search.specs.Places.{isDefinedOf, placeIn, placeOf}
 use Rattle.env_search.specs.Theorems.{valueAt, FindsTheValue, AbsentWhereNone}
-use Rattle.env.specs.Variable.{Lookup, present, is, among, lookup, valueOr}
+use Rattle.env.specs.Variable.{undefined, defined, Variable, isDefined, definedOnes, is, among, Lookup, orFurther, lookup, valueOr}
 use Rattle.env.specs.declared.VariableRecord.{VariableRecord}
-use Rattle.env.specs.Numbers.{recordsOf, variableOf, variablesHeld}
+use Rattle.env.specs.Numbers.{recordsOf, DEFINED, valueBy, variableOf, variablesHeld}
 use Rattle.octets.specs.Part.{part}
 use Rattle.octets.specs.Choice.{if_then_else_}
 
-value-of : (bytes : List ℕ) (a n : ℕ) (test : Bool) (after : ValuePlace) (rest : Lookup) → valueAt bytes after ≡ rest
-    → valueAt bytes (if test then At a n else after) ≡ (if test then present (part bytes a n) else rest)
-unfolding valueAt
-value-of bytes a n true after rest e = refl
-value-of bytes a n false after rest e = e
+-- what a record gives a look-up: its value where it is defined, of that kind and name; else what is found further on
+value-of : (bytes : List ℕ) (a n : ℕ) (marked test : Bool) (after : ValuePlace) (rest : Lookup) → valueAt bytes after ≡ rest
+    → valueAt bytes (if marked && test then At a n else after)
+    ≡ (if test then orFurther (if marked then defined (part bytes a n) else undefined) rest else rest)
+unfolding valueAt orFurther
+value-of bytes a n true true after rest e = refl
+value-of bytes a n true false after rest e = e
+value-of bytes a n false true after rest e = e
+value-of bytes a n false false after rest e = e
 
 finds-in : (kind : ℕ) (name bytes : List ℕ) (rs : List VariableRecord)
     → valueAt bytes (placeIn kind name bytes rs) ≡ lookup kind name (map (variableOf bytes) rs)
-unfolding valueAt placeIn lookup
+unfolding valueAt isDefinedOf placeIn lookup valueBy
 finds-in kind name bytes [] = refl
 finds-in kind name bytes (r ∷ rs) =
-    value-of bytes (r .«value_at») (r .«value_length») (is kind name (variableOf bytes r)) (placeIn kind name bytes rs)
+    value-of bytes (r .«value_at») (r .«value_length») (eqb (r .mark) DEFINED) (is kind name (variableOf bytes r)) (placeIn kind name bytes rs)
     (lookup kind name (map (variableOf bytes) rs)) (finds-in kind name bytes rs)
 
 pub finds-the-value : FindsTheValue
@@ -37,20 +42,29 @@ unfoldable there : ValuePlace → Bool
 there Absent = false
 there (At a n) = true
 
-there-of : (a n : ℕ) (test : Bool) (after : ValuePlace) (rest : Bool) → there after ≡ rest → there (if test then At a n else after) ≡ (test || rest)
+there-or : (a n : ℕ) (test : Bool) (after : ValuePlace) (rest : Bool) → there after ≡ rest → there (if test then At a n else after) ≡ (test || rest)
 unfolding there
-there-of a n true after rest e = refl
-there-of a n false after rest e = e
+there-or a n true after rest e = refl
+there-or a n false after rest e = e
+
+there-of : (kind : ℕ) (name : List ℕ) (a n : ℕ) (marked : Bool) (v : Variable) (value : List ℕ) (vs : List Variable) (after : ValuePlace)
+    → there after ≡ among kind name vs
+    → there (if marked && is kind name v then At a n else after)
+    ≡ among kind name (if isDefined (if marked then defined value else undefined) then v ∷ vs else vs)
+unfolding among isDefined
+there-of kind name a n true v value vs after e = there-or a n (is kind name v) after (among kind name vs) e
+there-of kind name a n false v value vs after e = e
 
 there-in : (kind : ℕ) (name bytes : List ℕ) (rs : List VariableRecord)
-    → there (placeIn kind name bytes rs) ≡ among kind name (map (variableOf bytes) rs)
-unfolding there placeIn among
+    → there (placeIn kind name bytes rs) ≡ among kind name (definedOnes (map (variableOf bytes) rs))
+unfolding there isDefinedOf placeIn among definedOnes valueBy
 there-in kind name bytes [] = refl
 there-in kind name bytes (r ∷ rs) =
-    there-of (r .«value_at») (r .«value_length») (is kind name (variableOf bytes r)) (placeIn kind name bytes rs)
-    (among kind name (map (variableOf bytes) rs)) (there-in kind name bytes rs)
+    there-of kind name (r .«value_at») (r .«value_length») (eqb (r .mark) DEFINED) (variableOf bytes r) _ (definedOnes (map (variableOf bytes) rs))
+    (placeIn kind name bytes rs) (there-in kind name bytes rs)
 
-there-among : (kind : ℕ) (name bytes numbers : List ℕ) → there (placeOf kind name bytes numbers) ≡ among kind name (variablesHeld bytes numbers)
+there-among : (kind : ℕ) (name bytes numbers : List ℕ)
+    → there (placeOf kind name bytes numbers) ≡ among kind name (definedOnes (variablesHeld bytes numbers))
 unfolding placeOf variablesHeld
 there-among kind name bytes numbers = there-in kind name bytes (recordsOf numbers)
 

@@ -5,7 +5,7 @@ use mathlib.Core.List.{List}
 use Prim.Native.Nat.{ℕ, _+_, _*_, _/_, _≤_, _<_}
 use lib.ListN.{length, drop}
 use Rattle.env_search.specs.declared.ValuePlace.the-variants.{Absent, At}
-use Rattle.env_search.specs.Places.{placeIn, placeOf}
+use Rattle.env_search.specs.Places.{isDefinedOf, placeIn, placeOf}
 use Rattle.env_records.specs.Records.{recordAt}
 use Rattle.env_records.proofs.Steps.{none-left, record-step, held-step, held-end}
 use Rattle.env.specs.declared.VariableRecord.{VariableRecord}
@@ -37,7 +37,7 @@ repeated-end bytes l i h = ap repeated (held-end bytes l i h)
 pub place-step : (kind : ℕ) (name bytes l : List ℕ) (i : ℕ) → i < length l / recordWidth
     → let r = recordAt l i in
     placeOf kind name bytes (drop (recordWidth * i) l)
-    ≡ (if is kind name (variableOf bytes r) then At (r .«value_at») (r .«value_length») else placeOf kind name bytes (drop (recordWidth * (i + 1)) l))
+    ≡ (if isDefinedOf kind name bytes r then At (r .«value_at») (r .«value_length») else placeOf kind name bytes (drop (recordWidth * (i + 1)) l))
 unfolding placeOf placeIn
 place-step kind name bytes l i h = ap (placeIn kind name bytes) (record-step l i h)
 
@@ -46,6 +46,6 @@ unfolding placeOf placeIn
 place-end kind name bytes l i h = ap (placeIn kind name bytes) (none-left l i h)
 
 -- what a test of a record that was read from the list says of record i
-pub tested : (kind : ℕ) (name bytes l : List ℕ) (i : ℕ) (r : VariableRecord) (t s : Bool) → r ≡ recordAt l i → t ≡ is kind name (variableOf bytes r) → t ≡ s
-    → is kind name (variableOf bytes (recordAt l i)) ≡ s
-tested kind name bytes l i r t s read said e = ap (λ v. is kind name (variableOf bytes v)) (sym read) ∙ sym said ∙ e
+pub tested : (test : VariableRecord → Bool) (l : List ℕ) (i : ℕ) (r : VariableRecord) (t s : Bool) → r ≡ recordAt l i → t ≡ test r → t ≡ s
+    → test (recordAt l i) ≡ s
+tested test l i r t s read said e = ap test (sym read) ∙ sym said ∙ e

@@ -2,11 +2,12 @@
 use mathlib.Core.Path.{_≡_}
 use mathlib.Core.Bool.{false}
 use mathlib.Core.List.{List}
+use mathlib.Core.Logic.{_↔_}
 use Prim.Native.Nat.{ℕ}
 use Rattle.env_search.specs.declared.ValuePlace.{ValuePlace}
 use Rattle.env_search.specs.declared.ValuePlace.the-variants.{Absent, At}
 use Rattle.env_search.specs.Places.{placeOf}
-use Rattle.env.specs.Variable.{Lookup, absent, present, among, lookup}
+use Rattle.env.specs.Variable.{definedOnes, Lookup, absent, present, among, lookup}
 use Rattle.env.specs.Numbers.{variablesHeld}
 use Rattle.octets.specs.Part.{part}
 
@@ -15,14 +16,13 @@ unfoldable pub valueAt : List ℕ → ValuePlace → Lookup
 valueAt bytes Absent = absent
 valueAt bytes (At a n) = present (part bytes a n)
 
--- What a look-up finds is the value of the first variable of that kind and name.
+-- What a look-up finds is the value of the first variable of that kind and name that is defined.
 abbrev pub FindsTheValue : Type 0
 FindsTheValue =
     (kind : ℕ) (name bytes numbers : List ℕ) → valueAt bytes (placeOf kind name bytes numbers) ≡ lookup kind name (variablesHeld bytes numbers)
 
--- It finds nothing exactly where no variable is of that kind and name.
+-- It finds nothing exactly where no variable of that kind and name is among the defined ones.
 abbrev pub AbsentWhereNone : Type 0
 AbsentWhereNone =
     (kind : ℕ) (name bytes numbers : List ℕ)
-    → (placeOf kind name bytes numbers ≡ Absent → among kind name (variablesHeld bytes numbers) ≡ false)
-    × (among kind name (variablesHeld bytes numbers) ≡ false → placeOf kind name bytes numbers ≡ Absent)
+    → (placeOf kind name bytes numbers ≡ Absent) ↔ (among kind name (definedOnes (variablesHeld bytes numbers)) ≡ false)

@@ -13,16 +13,16 @@ use lib.ListN.{length, getD, drop, length-append}
 use Rattle.env_variables.specs.declared.Found.{Found as Answered}
 use Rattle.env_variables.specs.declared.Found.the-variants.{Variables, Fault}
 use Rattle.env_variables.specs.internal.Found.{Buffers, buffers, NameRead}
-use Rattle.env_variables.specs.internal.Texts.{givesValue, IsTaken}
+use Rattle.env_variables.specs.internal.Texts.{givesValue, markAt, IsTaken}
 use Rattle.env_variables.specs.internal.Turns.{fromName, Valued, valued, badValue, followed, fromValue, completed}
 use Rattle.env_variables.specs.internal.Turns.{IsValue, ValueRead}
 use Rattle.env_text.specs.declared.Text.{Text as Taken}
 use Rattle.env_text.specs.Text.{textOf, endsText}
 use Rattle.env_text.proofs.Standing.{row-marked}
-use Rattle.env.specs.Variable.{variable, variableLimit, VAR, USERVAR, isKind}
+use Rattle.env.specs.Variable.{Value, undefined, defined, variable, variableLimit, VAR, USERVAR, isKind}
 use Rattle.env.specs.Fields.{Text, text, broken, Field, nameField, valueField, row, rowOf, joins, stands, escapes, startsName, startsValue}
 use Rattle.env.specs.Read.{Found, variables, fault, addVariable, limited, whole, named, names, expectNoText}
-use Rattle.env.specs.Numbers.{listLimit, recordWidth, variableRecord, numbersOf, packed, recorded}
+use Rattle.env.specs.Numbers.{listLimit, recordWidth, variableRecord, numbersOf, markOf, bytesOf, packed, recorded}
 use Rattle.refusal.specs.Refusal.{noVariable, badEscape, valueInValue, tooManyVariables}
 use Rattle.env.proofs.Rows.{row-kind}
 use Rattle.env.proofs.Holding.{length-recorded}
@@ -31,7 +31,7 @@ use Rattle.octets.proofs.Choice.{choice}
 use Rattle.octets.proofs.Overwrite.{overwrite-nil, overwrite-append, length-overwrite}
 
 -- the fields of a variable, turn by turn
-before-completed : (kind : ℕ) (name v : List ℕ) (found : Found) → addVariable (variable kind name v) found ≡ completed kind name (followed v found)
+before-completed : (kind : ℕ) (name : List ℕ) (v : Value) (found : Found) → addVariable (variable kind name v) found ≡ completed kind name (followed v found)
 unfolding addVariable completed followed
 before-completed kind name v (variables vs) = refl
 before-completed kind name v (fault n) = refl
@@ -58,10 +58,10 @@ module _ (number k kind : ℕ) where
   pub names-turn : (b : ℕ) (bs : List ℕ) (fs : List Field) → k < variableLimit
       → names number k (nameField kind (text (b ∷ bs)) ∷ fs) ≡ completed kind (b ∷ bs) (fromValue k fs)
   unfolding names limited whole named fromValue completed
-  names-turn b bs [] h = rw (lt-ltb k variableLimit h) (before-completed kind (b ∷ bs) [] (variables []))
-  names-turn b bs (nameField kind₂ u ∷ fs) h = rw (lt-ltb k variableLimit h) (before-completed kind (b ∷ bs) [] (names noVariable (suc k) (nameField kind₂ u ∷ fs)))
+  names-turn b bs [] h = rw (lt-ltb k variableLimit h) (before-completed kind (b ∷ bs) undefined (variables []))
+  names-turn b bs (nameField kind₂ u ∷ fs) h = rw (lt-ltb k variableLimit h) (before-completed kind (b ∷ bs) undefined (names noVariable (suc k) (nameField kind₂ u ∷ fs)))
   names-turn b bs (valueField broken ∷ fs) h = rw (lt-ltb k variableLimit h)
-  names-turn b bs (valueField (text v) ∷ fs) h = rw (lt-ltb k variableLimit h) (before-completed kind (b ∷ bs) v (names valueInValue (suc k) fs))
+  names-turn b bs (valueField (text v) ∷ fs) h = rw (lt-ltb k variableLimit h) (before-completed kind (b ∷ bs) (defined v) (names valueInValue (suc k) fs))
 
 -- what is stored from a value on, with the name before it
 pub with-name : (kind : ℕ) (name : List ℕ) (found : Valued) (at k : ℕ) (bytes₀ numbers₀ : List ℕ) (r : Answered) (bytes numbers : List ℕ)
@@ -71,38 +71,42 @@ unfolding ValueRead NameRead completed packed recorded
 with-name kind name (badValue n) at k bytes₀ numbers₀ r bytes numbers is h = is
 with-name kind name (valued v vs) at k bytes₀ numbers₀ r bytes numbers is h =
     let l = length-overwrite bytes₀ at name h in
-    let room : at + (length name + length (v ++ packed vs)) ≤ length bytes₀ = omega (arith, is .within, l) in
-    let used : at + length name + length (v ++ packed vs) ≡ at + length (name ++ (v ++ packed vs)) = omega (arith, length-append name (v ++ packed vs)) in
+    let more = bytesOf v ++ packed vs in
+    let room : at + (length name + length more) ≤ length bytes₀ = omega (arith, is .within, l) in
+    let used : at + length name + length more ≡ at + length (name ++ more) = omega (arith, length-append name more) in
     record {
       answer = is .answer ∙ ap (Variables (k + suc (length vs))) used;
       limit = is .limit;
       within = rw length-append room;
-      texts = is .texts ∙ overwrite-append bytes₀ at name (v ++ packed vs) room;
+      texts = is .texts ∙ overwrite-append bytes₀ at name more room;
       records = is .records;
     }
 
 -- what is stored from the next name on, with the value before it
-pub with-value : (kind : ℕ) (v : List ℕ) (found : Found) (at n k : ℕ) (bytes₀ numbers₀ : List ℕ) (r : Answered) (bytes numbers : List ℕ)
-    → NameRead found (at + n + length v) (k + 1)
-    (buffers (overwrite bytes₀ (at + n) v) (overwrite numbers₀ (recordWidth * k) (numbersOf (variableRecord kind at n (at + n) (length v))))) r (buffers bytes numbers)
-    → at + n + length v ≤ length bytes₀ → k < variableLimit → listLimit ≤ length numbers₀
+pub with-value : (kind : ℕ) (v : Value) (found : Found) (at n k : ℕ) (bytes₀ numbers₀ : List ℕ) (r : Answered) (bytes numbers : List ℕ)
+    → let x = bytesOf v in
+    NameRead found (at + n + length x) (k + 1)
+    (buffers (overwrite bytes₀ (at + n) x) (overwrite numbers₀ (recordWidth * k) (numbersOf (variableRecord kind at n (at + n) (length x) (markOf v)))))
+    r (buffers bytes numbers)
+    → at + n + length x ≤ length bytes₀ → k < variableLimit → listLimit ≤ length numbers₀
     → ValueRead (followed v found) kind at n k (buffers bytes₀ numbers₀) r (buffers bytes numbers)
 unfolding ValueRead NameRead followed
 with-value kind v (fault m) at n k bytes₀ numbers₀ r bytes numbers is h g room = is
 with-value kind v (variables vs) at n k bytes₀ numbers₀ r bytes numbers is h g room =
-    let l = length-overwrite bytes₀ (at + n) v h in
-    let fit : at + n + (length v + length (packed vs)) ≤ length bytes₀ = omega (arith, is .within, l) in
-    let this = numbersOf (variableRecord kind at n (at + n) (length v)) in
-    let more = recorded (at + n + length v) vs in
+    let x = bytesOf v in
+    let l = length-overwrite bytes₀ (at + n) x h in
+    let fit : at + n + (length x + length (packed vs)) ≤ length bytes₀ = omega (arith, is .within, l) in
+    let this = numbersOf (variableRecord kind at n (at + n) (length x) (markOf v)) in
+    let more = recorded (at + n + length x) vs in
     let count : k + 1 + length vs ≡ k + suc (length vs) = omega arith in
-    let used : at + n + length v + length (packed vs) ≡ at + n + length (v ++ packed vs) = omega (arith, length-append v (packed vs)) in
+    let used : at + n + length x + length (packed vs) ≡ at + n + length (x ++ packed vs) = omega (arith, length-append x (packed vs)) in
     let place : recordWidth * (k + 1) ≡ recordWidth * k + recordWidth = omega arith in
-    let list : recordWidth * k + (recordWidth + length more) ≤ length numbers₀ = omega (arith, is .limit, length-recorded (at + n + length v) vs) in
+    let list : recordWidth * k + (recordWidth + length more) ≤ length numbers₀ = omega (arith, is .limit, length-recorded (at + n + length x) vs) in
     record {
       answer = is .answer ∙ rw (count, used);
       limit = omega (arith, is .limit);
       within = rw length-append fit;
-      texts = is .texts ∙ overwrite-append bytes₀ (at + n) v (packed vs) fit;
+      texts = is .texts ∙ overwrite-append bytes₀ (at + n) x (packed vs) fit;
       records = is .records ∙ rw place (overwrite-append numbers₀ (recordWidth * k) this more list);
     }
 
@@ -191,13 +195,13 @@ any-number m n k kind u (nameField kind₂ v ∷ fs) = refl
 any-number m n k kind u (valueField v ∷ fs) = refl
 
 value-of-none : (k : ℕ) (l : List ℕ) → endsText l ≡ true → givesValue l ≡ false
-    → fromValue k (rowOf l .fields) ≡ followed [] (names valueInValue (suc k) (rowOf l .fields))
+    → fromValue k (rowOf l .fields) ≡ followed undefined (names valueInValue (suc k) (rowOf l .fields))
 unfolding endsText givesValue rowOf startsName fromValue names
 value-of-none k [] m e = refl
-value-of-none k (zero ∷ bs) m e = ap (followed []) (any-number noVariable valueInValue (suc k) VAR (rowOf bs .front) (rowOf bs .fields))
+value-of-none k (zero ∷ bs) m e = ap (followed undefined) (any-number noVariable valueInValue (suc k) VAR (rowOf bs .front) (rowOf bs .fields))
 value-of-none k (suc zero ∷ bs) m e = cc
 value-of-none k (suc (suc zero) ∷ bs) m e = cc
-value-of-none k (suc (suc (suc zero)) ∷ bs) m e = ap (followed []) (any-number noVariable valueInValue (suc k) USERVAR (rowOf bs .front) (rowOf bs .fields))
+value-of-none k (suc (suc (suc zero)) ∷ bs) m e = ap (followed undefined) (any-number noVariable valueInValue (suc k) USERVAR (rowOf bs .front) (rowOf bs .fields))
 value-of-none k (suc (suc (suc (suc b))) ∷ bs) m e = cc
 
 value-of : (k : ℕ) (l : List ℕ) → givesValue l ≡ true → rowOf l .fields ≡ valueField (rowOf (drop 1 l) .front) ∷ rowOf (drop 1 l) .fields
@@ -212,11 +216,13 @@ next-name k l m = ap (λ i. names valueInValue i (rowOf l .fields)) (sym (add-on
 -- a name without VALUE
 pub no-value : (l bytes : List ℕ) (at : ℕ) → endsText l ≡ true → givesValue l ≡ false
     → IsValue l bytes at (record { whole = true; length = 0; end = 0 }) bytes
+unfolding markAt markOf bytesOf
 no-value l bytes at m e = record {
-  value = [];
+  value = undefined;
   bad = λ w k. cc;
-  good = λ w k. value-of-none k l m e ∙ ap (followed []) (next-name k l m);
+  good = λ w k. value-of-none k l m e ∙ ap (followed undefined) (next-name k l m);
   texts = λ w. sym (overwrite-nil bytes at);
+  mark = rw e;
   count = refl;
   forward = omega arith;
   within = omega arith;
@@ -227,17 +233,19 @@ unfolding fromValue
 value-broken k l e b = rw (value-of k l e, b)
 
 value-whole : (k : ℕ) (l v : List ℕ) (fs : List Field) → givesValue l ≡ true → rowOf (drop 1 l) ≡ row (text v) fs
-    → fromValue k (rowOf l .fields) ≡ followed v (names valueInValue (suc k) fs)
+    → fromValue k (rowOf l .fields) ≡ followed (defined v) (names valueInValue (suc k) fs)
 unfolding fromValue
 value-whole k l v fs e g = rw (value-of k l e, g)
 
 -- a VALUE and the text after it
 pub some-value : (l bytes₀ : List ℕ) (at : ℕ) (t : Taken) (bytes : List ℕ) → givesValue l ≡ true → IsTaken l bytes₀ at t bytes → IsValue l bytes₀ at t bytes
+unfolding markAt markOf bytesOf
 some-value l bytes₀ at t bytes e is = record {
-  value = textOf (drop 1 l) .bytes;
+  value = defined (textOf (drop 1 l) .bytes);
   bad = λ w k. value-broken k l e (is .bad w);
-  good = λ w k. value-whole k l _ _ e (is .good w) ∙ ap (followed (textOf (drop 1 l) .bytes)) (next-name k (drop (t .end) l) (is .mark w));
+  good = λ w k. value-whole k l _ _ e (is .good w) ∙ ap (followed (defined (textOf (drop 1 l) .bytes))) (next-name k (drop (t .end) l) (is .mark w));
   texts = is .texts;
+  mark = rw e;
   count = is .count;
   forward = omega (arith, is .forward);
   within = is .within;
@@ -247,12 +255,12 @@ some-value l bytes₀ at t bytes e is = record {
 pub value-turn : (kind at n k : ℕ) (l bytes₀ bytes₁ numbers₀ : List ℕ) (t : Taken) (r : Answered) (bytes numbers : List ℕ)
     → IsValue l bytes₀ (at + n) t bytes₁ → t .whole ≡ true → at + n + length l ≤ length bytes₀ → k < variableLimit → listLimit ≤ length numbers₀
     → NameRead (fromName valueInValue (k + 1) (rowOf (drop (t .end) l))) (at + n + t .length) (k + 1)
-    (buffers bytes₁ (overwrite numbers₀ (recordWidth * k) (numbersOf (variableRecord kind at n (at + n) (t .length))))) r (buffers bytes numbers)
+    (buffers bytes₁ (overwrite numbers₀ (recordWidth * k) (numbersOf (variableRecord kind at n (at + n) (t .length) (markAt l))))) r (buffers bytes numbers)
     → ValueRead (fromValue k (rowOf l .fields)) kind at n k (buffers bytes₀ numbers₀) r (buffers bytes numbers)
 value-turn kind at n k l bytes₀ bytes₁ numbers₀ t r bytes numbers is w h g room more =
     let found = fromName valueInValue (k + 1) (rowOf (drop (t .end) l)) in
-    let fit : at + n + length (is .value) ≤ length bytes₀ = omega (arith, is .count, is .forward, is .within) in
-    rw (is .good w k) (with-value kind (is .value) found at n k bytes₀ numbers₀ r bytes numbers (rw (← is .texts w, ← is .count) more) fit g room)
+    let fit : at + n + length (bytesOf (is .value)) ≤ length bytes₀ = omega (arith, is .count, is .forward, is .within) in
+    rw (is .good w k) (with-value kind (is .value) found at n k bytes₀ numbers₀ r bytes numbers (rw (← is .texts w, ← is .mark, ← is .count) more) fit g room)
 
 pub value-fault : (found : Valued) (m kind at n k : ℕ) (before after : Buffers) → found ≡ badValue m → ValueRead found kind at n k before (Fault m) after
 unfolding ValueRead

@@ -7,7 +7,7 @@ ghost use mathlib.Core.Path.{_≡_};
 ghost use Prim.Native.Nat.{_+_, _*_, _≤_, _<_};
 ghost use lib.ListN.{length};
 ghost use Rattle.env_variables.specs.internal.Found.{buffers, NameRead};
-ghost use Rattle.env_variables.specs.internal.Texts.{givesValue, IsTaken};
+ghost use Rattle.env_variables.specs.internal.Texts.{givesValue, markAt, IsTaken};
 ghost use Rattle.env_variables.specs.internal.Turns.{fromName, fromValue, HasRoom, IsValue, ValueRead};
 ghost use Rattle.env_text.specs.Text.{endsText};
 ghost use Rattle.env.specs.Variable.{isKind, variableLimit};
@@ -17,9 +17,11 @@ ghost use Rattle.env.specs.Fields.{rowOf};
 ghost use Rattle.env.specs.Read.{variablesOf};
 ghost use Rattle.octets.specs.Lent.{overwrite};
 ghost use Rattle.env_delivery.specs.Promise.{delivery, readAfter};
+use env::DEFINED;
 use env::LIST_LIMIT;
 use env::PAYLOAD_LIMIT;
 use env::RECORD_WIDTH;
+use env::UNDEFINED;
 use env::VALUE;
 use env::VARIABLE_LIMIT;
 use env_codes::is_kind;
@@ -70,8 +72,18 @@ fn take_text(rest: &[u8], bytes: &mut [u8], at: usize) -> Text
     t
 }
 
-// Puts the value after a name at a place of the buffer; where there is no VALUE, it is empty and takes nothing of the
-// rest.
+// The mark of the value after a name: undefined where there is no VALUE.
+fn mark_at(rest: &[u8]) -> usize
+    ensures { λ r. ⌜ r ≡ markAt (now (rest .entry)) ⌝ }
+{
+    if gives_value(rest) {
+        return DEFINED;
+    }
+    UNDEFINED
+}
+
+// Puts the value after a name at a place of the buffer; where there is no VALUE, it has no bytes and takes nothing of
+// the rest.
 fn take_value(rest: &[u8], bytes: &mut [u8], at: usize) -> Text
     requires { ⌜ (endsText (now rest) ≡ true) × (at + length (now rest) ≤ length (now bytes)) ⌝ }
     ensures { λ r. ⌜ IsValue (now (rest .entry)) (now (bytes .entry)) at r (now (bytes .exit)) ⌝ }
@@ -86,12 +98,12 @@ fn take_value(rest: &[u8], bytes: &mut [u8], at: usize) -> Text
     take_text(rest, bytes, at)
 }
 
-// Sets record k: a name of n bytes, and m bytes of its value after it.
-fn store(numbers: &mut [usize], k: usize, kind: u8, at: usize, n: usize, m: usize)
+// Sets record k: a name of n bytes, and m bytes of its value after it, with the value's mark.
+fn store(numbers: &mut [usize], k: usize, kind: u8, at: usize, n: usize, m: usize, mark: usize)
     requires { ⌜ (k < variableLimit) × (listLimit ≤ length (now numbers)) × (at + n ≤ payloadLimit) ⌝ }
-    ensures { λ _. ⌜ now (numbers .exit) ≡ overwrite (now (numbers .entry)) (recordWidth * k) (numbersOf (variableRecord kind at n (at + n) m)) ⌝ }
+    ensures { λ _. ⌜ now (numbers .exit) ≡ overwrite (now (numbers .entry)) (recordWidth * k) (numbersOf (variableRecord kind at n (at + n) m mark)) ⌝ }
 {
-    set_record(numbers, k, record_of(kind as usize, at, n, at + n, m));
+    set_record(numbers, k, record_of(kind as usize, at, n, at + n, m, mark));
 }
 
 // A name is expected, or nothing. A VALUE in its place is a fault with a number.
@@ -155,7 +167,7 @@ fn value(
     if !t.whole {
         return Found::Fault(BAD_ESCAPE);
     }
-    store(numbers, k, kind, at, n, t.length);
+    store(numbers, k, kind, at, n, t.length, mark_at(rest));
     let end = t.end;
     name(
         &rest[end..],

@@ -9,7 +9,7 @@ use lib.Dec.{eqb}
 use lib.ListN.{length, take, drop, length-append, length-take, length-drop}
 use borrow.Author.Tests.{eq-eqb, ne-eqb, eqb-true, leb-true}
 use Rattle.env.specs.Variable.{VAR, ESC, USERVAR, isKind}
-use Rattle.env.specs.Write.{escaped, writtenVariable, writtenVariables, isEmpty, nameless}
+use Rattle.env.specs.Write.{escaped, writtenValue, writtenVariable, writtenVariables, isEmpty, nameless}
 use Rattle.env.specs.Numbers.{recordWidth, variableOf, variablesHeld, fits, isPlaced, placed}
 use Rattle.octets.specs.Part.{part}
 use Rattle.env.specs.declared.VariableRecord.{VariableRecord}
@@ -41,7 +41,8 @@ unfolding fits
 within bytes r e =
     let places = both (isKind (r .kind)) _ e in
     let texts = both (fits bytes (r .«name_at») (r .«name_length»)) _ (places .1) in
-    record { kind = kind-small (r .kind) (places .0); name = leb-true _ _ (texts .0); value = leb-true _ _ (texts .1) }
+    let value = both (fits bytes (r .«value_at») (r .«value_length»)) _ (texts .1) in
+    record { kind = kind-small (r .kind) (places .0); name = leb-true _ _ (texts .0); value = leb-true _ _ (value .0) }
 
 -- a part of the buffer as it is lent, by its two ends, and what it takes
 lent-part : (bytes : List ℕ) (at n : ℕ) → take (at + n - at) (drop at bytes) ≡ part bytes at n
@@ -67,7 +68,7 @@ empty-part bytes at n h = go (part bytes at n) (simp (length-take, length-drop) 
 
 pub length-written : (bytes : List ℕ) (r : VariableRecord)
     → length (writtenVariable (variableOf bytes r))
-    ≡ 2 + length (escaped (part bytes (r .«name_at») (r .«name_length»))) + length (escaped (part bytes (r .«value_at») (r .«value_length»)))
+    ≡ 1 + length (escaped (part bytes (r .«name_at») (r .«name_length»))) + length (writtenValue (variableOf bytes r .value))
 unfolding writtenVariable
 length-written bytes r = simp length-append (omega arith)
 

@@ -5,12 +5,13 @@ ghost use mathlib.Core.Bool.{true};
 ghost use mathlib.Core.List.{List};
 ghost use Prim.Native.Nat.{ℕ, _+_, min, _≤_};
 ghost use lib.ListN.{length};
-ghost use Rattle.env.specs.Write.{escaped, writtenVariable, writtenVariables, nameless};
+ghost use Rattle.env.specs.Write.{escaped, writtenValue, writtenVariable, writtenVariables, nameless};
 ghost use Rattle.env.specs.Numbers.{variableOf, variablesHeld, isPlaced, placed};
 ghost use Rattle.telnet.specs.Event.{payloadLimit};
 ghost use Rattle.octets.specs.Lent.{outcome, overwrite, IsPut};
 ghost use Rattle.env_writer.specs.Promise.{writeInto};
 ghost use Rattle.env_writer.specs.internal.Puts.{HasRoom};
+use env::DEFINED;
 use env::ESC;
 use env::PAYLOAD_LIMIT;
 use env::RECORD_WIDTH;
@@ -24,7 +25,8 @@ use refusal::Written;
 // The length that says: past the limit.
 const TOO_LONG: usize = PAYLOAD_LIMIT + 1;
 
-// Whether a record is a VAR or a USERVAR, with its name and its value in the buffer.
+// Whether a record is a VAR or a USERVAR, with its name and its value in the buffer, and without value bytes where it
+// is undefined.
 fn is_placed(bytes: &[u8], v: VariableRecord) -> bool
     ensures { λ r. ⌜ r ≡ isPlaced (now (bytes .entry)) v ⌝ }
 {
@@ -34,7 +36,13 @@ fn is_placed(bytes: &[u8], v: VariableRecord) -> bool
     if !env_records::fits(bytes.len(), v.name_at, v.name_length) {
         return false;
     }
-    env_records::fits(bytes.len(), v.value_at, v.value_length)
+    if !env_records::fits(bytes.len(), v.value_at, v.value_length) {
+        return false;
+    }
+    if v.mark == DEFINED {
+        return true;
+    }
+    v.value_length == 0
 }
 
 // Whether every record is.
@@ -69,7 +77,7 @@ fn any_nameless(numbers: &[usize]) -> bool
 // A length with a name or a value after it; past the limit, one past it. Names and values may overlap in the buffer, so
 // that the sum of all could wrap.
 fn longer(n: usize, text: &[u8]) -> usize
-    requires { ⌜ n ≤ payloadLimit + 3 ⌝ }
+    requires { ⌜ n ≤ payloadLimit + 2 ⌝ }
     ensures { λ r. ⌜ r ≡ min (payloadLimit + 1) (n + length (escaped (now (text .entry)))) ⌝ }
 {
     if PAYLOAD_LIMIT < text.len() {
@@ -82,6 +90,19 @@ fn longer(n: usize, text: &[u8]) -> usize
     m
 }
 
+// A length with the value of a record after it, counted likewise; an undefined one takes nothing.
+fn longer_by_value(n: usize, bytes: &[u8], v: VariableRecord) -> usize
+    requires { ⌜ (n ≤ payloadLimit + 1) × (isPlaced (now bytes) v ≡ true) ⌝ }
+    ensures { λ r. ⌜ r ≡ min (payloadLimit + 1) (n + length (writtenValue (variableOf (now (bytes .entry)) v .value))) ⌝ }
+{
+    if v.mark != DEFINED {
+        return n;
+    }
+    let value = v.value_at;
+    let value_end = value + v.value_length;
+    longer(n + 1, &bytes[value..value_end])
+}
+
 // A length with a variable after it, counted likewise.
 fn longer_by_variable(n: usize, bytes: &[u8], v: VariableRecord) -> usize
     requires { ⌜ (n ≤ payloadLimit + 1) × (isPlaced (now bytes) v ≡ true) ⌝ }
@@ -89,10 +110,8 @@ fn longer_by_variable(n: usize, bytes: &[u8], v: VariableRecord) -> usize
 {
     let name = v.name_at;
     let name_end = name + v.name_length;
-    let value = v.value_at;
-    let value_end = value + v.value_length;
-    let with_name = longer(n + 2, &bytes[name..name_end]);
-    longer(with_name, &bytes[value..value_end])
+    let with_name = longer(n + 1, &bytes[name..name_end]);
+    longer_by_value(with_name, bytes, v)
 }
 
 // The length of the payload, counted likewise, and no further once it is past the limit.
@@ -112,6 +131,21 @@ fn measure(bytes: &[u8], numbers: &[usize]) -> usize
     n
 }
 
+// Puts the value of a record at a place, after VALUE, and nothing where it is undefined; the answer is the place after
+// it.
+fn put_value(bytes: &[u8], v: VariableRecord, out: &mut [u8], at: usize) -> usize
+    requires { ⌜ (isPlaced (now bytes) v ≡ true) × (at + length (writtenValue (variableOf (now bytes) v .value)) ≤ length (now out)) ⌝ }
+    ensures { λ r. ⌜ IsPut (writtenValue (variableOf (now (bytes .entry)) v .value)) (now (out .entry)) at r (now (out .exit)) ⌝ }
+{
+    if v.mark != DEFINED {
+        return at;
+    }
+    let value = v.value_at;
+    let value_end = value + v.value_length;
+    out[at] = VALUE;
+    octets_marked::put_marked(&bytes[value..value_end], ESC, VAR, USERVAR, out, at + 1)
+}
+
 // Puts a variable at a place; the answer is the place after it.
 fn put_variable(bytes: &[u8], v: VariableRecord, out: &mut [u8], at: usize) -> usize
     requires { ⌜ (isPlaced (now bytes) v ≡ true) × (at + length (writtenVariable (variableOf (now bytes) v)) ≤ length (now out)) ⌝ }
@@ -119,12 +153,9 @@ fn put_variable(bytes: &[u8], v: VariableRecord, out: &mut [u8], at: usize) -> u
 {
     let name = v.name_at;
     let name_end = name + v.name_length;
-    let value = v.value_at;
-    let value_end = value + v.value_length;
     out[at] = v.kind as u8;
     let k = octets_marked::put_marked(&bytes[name..name_end], ESC, VAR, USERVAR, out, at + 1);
-    out[k] = VALUE;
-    octets_marked::put_marked(&bytes[value..value_end], ESC, VAR, USERVAR, out, k + 1)
+    put_value(bytes, v, out, k)
 }
 
 // Puts the variables after the first byte.

@@ -1,8 +1,8 @@
 // Environment strings, for a caller in C. Each function answers with numbers: which number stands for what is said at
 // the structs and in `specs/Numbers.antt`. A `refusal` is 0 where there is none; else it is the refusal's number, and
 // every other field is 0. A slice is a pointer and a length. A list of variable records is a slice of numbers,
-// RECORD_WIDTH for each: its kind (0 VAR, 3 USERVAR), the place and the length of its name in a buffer, and the place
-// and the length of its value there.
+// RECORD_WIDTH for each: its kind (0 VAR, 3 USERVAR), the place and the length of its name in a buffer, the place and
+// the length of its value there, and its mark (0 defined, 1 undefined; any but 0 reads as undefined).
 ghost use mathlib.Core.Path.{_≡_};
 ghost use Rattle.export_env.specs.Numbers.{payloadNumbers, readOut, readNumbers, placeNumbers};
 ghost use Rattle.export.specs.Numbers.{numbered, writtenNumbers};
@@ -24,7 +24,7 @@ pub struct TvPayload {
     pub bytes: usize,
 }
 
-// The place of a value in a buffer. `present` is 1, or 0 with the others 0.
+// The place of a value in a buffer. `present` is 1, or 0 with the others 0, for an undefined variable too.
 #[repr(C)]
 pub struct TvValue {
     pub present: u8,
@@ -69,7 +69,7 @@ fn place_numbers(place: ValuePlace) -> TvValue
 }
 
 // Reads a payload of NEW-ENVIRON. Names and values go back to back into `bytes`, and the records of their variables
-// into `numbers`. Refused by 3, 20 to 25 and 4.
+// into `numbers`; a variable without VALUE is undefined. Refused by 3, 20 to 25 and 4.
 #[no_mangle]
 pub extern "C" fn tv_env_read(payload: &[u8], bytes: &mut [u8], numbers: &mut [usize]) -> TvPayload
     ensures { λ r. ⌜
@@ -80,8 +80,8 @@ pub extern "C" fn tv_env_read(payload: &[u8], bytes: &mut [u8], numbers: &mut [u
     payload_numbers(env_reader::read(payload, bytes, numbers))
 }
 
-// Writes a payload to the front of `out`: its first byte, and the variables that the records have over `bytes`. Refused
-// by 20, 27, 21, 24, 25, 3 and 4.
+// Writes a payload to the front of `out`: its first byte, and the variables that the records have over `bytes`, an
+// undefined one without VALUE. Refused by 20, 27, 21, 24, 25, 3 and 4.
 #[no_mangle]
 pub extern "C" fn tv_env_write(
     first: u8,
@@ -97,8 +97,8 @@ pub extern "C" fn tv_env_write(
     export::written_numbers(env_writer::write(first, bytes, numbers, out))
 }
 
-// The place of the value of the first variable of a kind and name. The place is the record's own: records that
-// `tv_env_read` set keep within `bytes`, others may not.
+// The place of the value of the first variable of a kind and name that is defined. The place is the record's own:
+// records that `tv_env_read` set keep within `bytes`, others may not.
 #[no_mangle]
 pub extern "C" fn tv_env_value(bytes: &[u8], numbers: &[usize], kind: usize, name: &[u8]) -> TvValue
     ensures { λ r. ⌜ r ≡ placeNumbers (placeOf kind (now (name .entry)) (now (bytes .entry)) (now (numbers .entry))) ⌝ }

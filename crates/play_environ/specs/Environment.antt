@@ -4,7 +4,7 @@ use mathlib.Core.List.{List, [], _∷_, _++_}
 use Rattle.octets.specs.Ascii.{ascii}
 use Rattle.telnet.specs.Event.{Event, subnegotiation}
 use Rattle.option_rules.specs.Table.{newEnviron}
-use Rattle.env.specs.Variable.{IS, VAR, USERVAR, Variable, variable}
+use Rattle.env.specs.Variable.{IS, VAR, USERVAR, defined, Variable, variable}
 use Rattle.env.specs.Write.{escaped, payloadOf}
 use Rattle.play.specs.Seed.{serverSeed}
 
@@ -24,10 +24,10 @@ asked = subnegotiation newEnviron request
 -- the user, the printer's own seed, the password substitute under both seeds, and the device
 abbrev pub variables : List Variable
 variables =
-    variable VAR (ascii "USER") (ascii "USER123")
-    ∷ variable USERVAR (ascii "IBMRSEED") (0x08 ∷ 0xBE ∷ 0xF6 ∷ 0x62 ∷ 0xD8 ∷ 0x51 ∷ 0xF4 ∷ 0xB1 ∷ [])
-    ∷ variable USERVAR (ascii "IBMSUBSPW") (0xA3 ∷ 0x2E ∷ 0x34 ∷ 0xA4 ∷ 0x64 ∷ 0x28 ∷ 0x4A ∷ 0x94 ∷ [])
-    ∷ variable USERVAR (ascii "DEVNAME") (ascii "PCPRINTER")
+    variable VAR (ascii "USER") (defined (ascii "USER123"))
+    ∷ variable USERVAR (ascii "IBMRSEED") (defined (0x08 ∷ 0xBE ∷ 0xF6 ∷ 0x62 ∷ 0xD8 ∷ 0x51 ∷ 0xF4 ∷ 0xB1 ∷ []))
+    ∷ variable USERVAR (ascii "IBMSUBSPW") (defined (0xA3 ∷ 0x2E ∷ 0x34 ∷ 0xA4 ∷ 0x64 ∷ 0x28 ∷ 0x4A ∷ 0x94 ∷ []))
+    ∷ variable USERVAR (ascii "DEVNAME") (defined (ascii "PCPRINTER"))
     ∷ []
 
 abbrev pub environment : List ℕ

@@ -37,8 +37,8 @@ pub fn ask(down: &mut [u8], at: usize) -> usize
     end
 }
 
-// The printer's variables as a payload. They are given to the writer by their kinds and the places and lengths of names
-// and values.
+// The printer's variables as a payload. They are given to the writer by their kinds, the places and lengths of names
+// and values, and marks.
 fn payload() -> [u8; 69]
     ensures { λ r. ⌜ r ≡ environment ⌝ }
 {
@@ -50,21 +50,25 @@ fn payload() -> [u8; 69]
         4,
         4,
         7,
+        0,
         3,
         11,
         8,
         19,
         8,
+        0,
         3,
         27,
         9,
         36,
         8,
+        0,
         3,
         44,
         7,
         51,
         9,
+        0,
     ];
     let mut written = [0u8; 69];
     env_writer::write(0, bytes, &places, &mut written);

@@ -40,7 +40,16 @@ fn say_bytes(bytes: &[u8]) {
 }
 
 fn say_record(v: VariableRecord) {
-    show_case::say_numbers(&[v.kind, v.name_at, v.name_length, v.value_at, v.value_length]);
+    show_case::say_numbers(
+        &[
+            v.kind,
+            v.name_at,
+            v.name_length,
+            v.value_at,
+            v.value_length,
+            v.mark,
+        ],
+    );
 }
 
 // Says the answer to a payload that is read into the first n of 66 records, and gives the records.
@@ -72,6 +81,7 @@ fn read_list(payload: &[u8], bytes: &mut [u8], n: usize)
         name_length: 7,
         value_at: 7,
         value_length: 7,
+        mark: 7,
     };
     let records = read_into(payload, bytes, n, sevens);
     say_bytes(bytes);
@@ -118,7 +128,7 @@ fn run(text: &[u8]) {
 }
 
 fn main() {
-    let mut input = io::large_buffer();
+    let mut input = [0u8; 81920];
     let n = io::read_full(0, &mut input);
     run(&input[..n]);
 }

@@ -4,9 +4,9 @@
 //
 // A line of output has the name, the answer (the first byte, how many variables, how many bytes; or the refusal), and
 // all that was lent, as it is after the call: bytes, which are EE before, and numbers, which are 7 before. The payloads
-// of RFC 4777 are its own bytes; the others are for the refusals of the specification, every two faults in either
-// order, and each of its readings that is not the only one. `stdout` was made by a Python rendering of RFC 1572 as the
-// specification reads it.
+// of RFC 4777 are its own bytes, and those of clients were captured; the others are for the refusals of the
+// specification, every two faults in either order, and each of its readings that is not the only one. `stdout` was made
+// by a Python rendering of RFC 1572 as the specification reads it, with change request No. 3.
 use env_delivery::Answer;
 
 fn say(text: &[u8]) {
@@ -54,11 +54,11 @@ fn read_into(payload: &[u8], bytes: &mut [u8], numbers: &mut [usize]) {
 
 fn read_in(payload: &[u8], room: usize, list: usize) {
     let mut bytes = [0xEEu8; 1100];
-    let mut numbers = [7usize; 5000];
+    let mut numbers = [7usize; 6000];
     if 1100 < room {
         return;
     }
-    if 5000 < list {
+    if 6000 < list {
         return;
     }
     read_into(payload, &mut bytes[0..room], &mut numbers[0..list]);
@@ -93,7 +93,7 @@ fn run(text: &[u8]) {
 }
 
 fn main() {
-    let mut input = [0u8; 65536];
+    let mut input = [0u8; 81920];
     let n = io::read_full(0, &mut input);
     run(&input[..n]);
 }

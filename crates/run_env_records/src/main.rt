@@ -4,7 +4,8 @@
 //
 // A line of output has the name and the answers of `find`, the length and place of the value, and of `value_of`, the
 // value. The records are those that the payloads of RFC 4777 are read to, and others for the readings of the
-// specification. `stdout` was made by a Python rendering of RFC 1572 as the specification reads it.
+// specification. `stdout` was made by a Python rendering of RFC 1572 as the specification reads it, with change request
+// No. 3.
 use env_search::ValuePlace;
 use octets_part::part;
 use show_numbers::number_at;

@@ -1,6 +1,6 @@
 // Runs `set` and `get` of a lent list of variable records on the cases of standard input, one a line: a title, a colon,
 // and in hexadecimal digits the place to set and the place to get, a byte each. Of two records of 7s, the record at the
-// first place is set to 1, 2, 3, 4 and 5, and that at the second is got.
+// first place is set to 1, 2, 3, 4, 5 and 6, and that at the second is got.
 //
 // A line of output has the title, what `set` answered, and the numbers of the record. `stdout` is by hand from the
 // promises of `env_list`.
@@ -9,7 +9,16 @@ use env_list::get;
 use env_list::set;
 
 fn say_record(v: VariableRecord) {
-    show_case::say_numbers(&[v.kind, v.name_at, v.name_length, v.value_at, v.value_length]);
+    show_case::say_numbers(
+        &[
+            v.kind,
+            v.name_at,
+            v.name_length,
+            v.value_at,
+            v.value_length,
+            v.mark,
+        ],
+    );
 }
 
 fn say_set(answer: bool) {
@@ -35,6 +44,7 @@ fn run_case(i: u8, k: u8) {
         name_length: 7,
         value_at: 7,
         value_length: 7,
+        mark: 7,
     };
     let w = VariableRecord {
         kind: 1,
@@ -42,6 +52,7 @@ fn run_case(i: u8, k: u8) {
         name_length: 3,
         value_at: 4,
         value_length: 5,
+        mark: 6,
     };
     say_record(set_and_get(v, i as usize, w, k as usize));
 }

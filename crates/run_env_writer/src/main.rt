@@ -5,7 +5,8 @@
 //
 // A line of output has the name, the answer, and all that was lent, as it is after the call; it is EE before. What the
 // reader's cases read is written again; the others are for the refusals of the specification and every two faults in
-// either order. `stdout` was made by a Python rendering of RFC 1572 as the specification reads it.
+// either order. `stdout` was made by a Python rendering of RFC 1572 as the specification reads it, with change request
+// No. 3.
 use octets_part::part;
 use refusal::Written;
 use show_numbers::number_at;
@@ -95,7 +96,7 @@ fn run(text: &[u8]) {
 }
 
 fn main() {
-    let mut input = [0u8; 81920];
+    let mut input = [0u8; 98304];
     let n = io::read_full(0, &mut input);
     run(&input[..n]);
 }

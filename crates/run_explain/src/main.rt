@@ -3,8 +3,8 @@
 // has the title and what is printed.
 //
 // The cases are the sign-ons of `run_signon`, each reason from both sides of its boundary, every refusal, and every cut
-// of the input. `stdout` was made by a Python rendering of the specification and of change request No. 1, over Python's
-// hashlib and the DES of its package `cryptography`.
+// of the input. `stdout` was made by a Python rendering of the specification and of change requests No. 1 and No. 3,
+// over Python's hashlib and the DES of its package `cryptography`.
 
 // What the program prints for an input.
 fn say_printed(input: &[u8]) {

@@ -19,11 +19,11 @@ fn read(payload: &[u8], bytes: &mut [u8], numbers: &mut [usize]) {
 
 fn read_in(payload: &[u8], room: usize, list: usize) {
     let mut bytes = [0xEEu8; 1100];
-    let mut numbers = [7777usize; 330];
+    let mut numbers = [7777usize; 400];
     if 1100 < room {
         return;
     }
-    if 330 < list {
+    if 400 < list {
         return;
     }
     read(payload, &mut bytes[0..room], &mut numbers[0..list]);

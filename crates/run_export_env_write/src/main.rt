@@ -20,9 +20,9 @@ fn write_in(first: u8, bytes: &[u8], numbers: &[usize], room: usize) {
 }
 
 fn write_records(first: u8, room: usize, bytes: &[u8], pairs: &[u8]) {
-    let mut numbers = [0usize; 330];
+    let mut numbers = [0usize; 400];
     let n = show_numbers::put_numbers(pairs, &mut numbers);
-    if n <= 330 {
+    if n <= 400 {
         write_in(first, bytes, &numbers[0..n], room);
     }
 }

@@ -3,9 +3,10 @@
 // the verdict, or the refusal.
 //
 // The cases are the sign-ons of RFC 4777 (sections 5, 5.1 and 5.2), these with one thing changed, each rule of a
-// verdict from both sides, each refusal, and two refusals at once. The tokens and substitutes in `stdin` are the RFC's
-// or were computed by Python's hashlib and by the DES of its package `cryptography`, with which OpenSSL 3.0 (`des-ecb`,
-// `des-cbc`) agrees; `stdout` was made by a Python rendering of the specification over these.
+// verdict from both sides, each refusal, two refusals at once, each of the three variables undefined, and what clients
+// sent. The tokens and substitutes in `stdin` are the RFC's or were computed by Python's hashlib and by the DES of its
+// package `cryptography`, with which OpenSSL 3.0 (`des-ecb`, `des-cbc`) agrees; `stdout` was made by a Python rendering
+// of the specification and of change request No. 3 over these.
 use signon::Answer;
 use signon::Verdict;
 
@@ -66,7 +67,7 @@ fn run(text: &[u8]) {
 }
 
 fn main() {
-    let mut input = [0u8; 65536];
+    let mut input = [0u8; 81920];
     let n = io::read_full(0, &mut input);
     run(&input[..n]);
 }

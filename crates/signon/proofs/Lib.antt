@@ -4,3 +4,4 @@ pub mod Sentences
 pub mod Verdicts
 pub mod Conditions
 pub mod Reasons
+pub mod Undefined

@@ -25,7 +25,7 @@ use Rattle.signon.specs.declared.Verdict.the-variants.{Panel, NotKnown, 
 use Rattle.signon.specs.Attempt.{USER, IBMRSEED, IBMSUBSPW, Attempt, attemptBy, attempt, isClearPassword, isDesSubstitute, isShaSubstitute}
 use Rattle.signon.specs.Verdict.{firstOf, grantConditions, profileConditions, conditions, verdictOf}
 use Rattle.signon.specs.Theorems.{Told, Named, BySubstitute, ByPassword, Granted, OneTold, NoneNamed, NamedWith, Sentence}
-use Rattle.signon.proofs.Lookups.{Finds, finds, told-once}
+use Rattle.signon.proofs.Lookups.{Finds, finds, told-once, not-both}
 use Rattle.signon.proofs.Rules.{clear-says, clear-said, des-says, sha-says, substitute-said}
 
 -- a profile among ascending ones is well-formed
@@ -108,8 +108,8 @@ module _ (seed : List ℕ) (eight : length seed ≡ seedLength) (version : ℕ) 
     one-is-missing : (cs of : Lookup) → Finds vs USERVAR IBMRSEED cs → Finds vs USERVAR IBMSUBSPW of
         → Sentence seed ps vs (firstOf (grantConditions (at cs of (present u) (oneProfile p))) Failed)
     unfolding firstOf grantConditions
-    one-is-missing absent of f g = fails (λ h. f (h .seedTold .occurs))
-    one-is-missing (present s) absent f g = fails (λ h. g (h .offeredTold .occurs))
+    one-is-missing absent of f g = fails (λ h. not-both USERVAR IBMRSEED vs (h .clientSeed) (h .seedTold) f)
+    one-is-missing (present s) absent f g = fails (λ h. not-both USERVAR IBMSUBSPW vs (h .offered) (h .offeredTold) g)
     one-is-missing (present s) (present o) f g = by-rules s o f g
 
   -- one of the USERVARs is there
@@ -127,7 +127,7 @@ module _ (seed : List ℕ) (eight : length seed ≡ seedLength) (version : ℕ) 
     by-user : (us : Lookup) (pr : ProfileLookup) → Finds vs VAR USER us → LooksUp (raised (valueOr [] us)) pr
         → Sentence seed ps vs (firstOf (profileConditions (at cs of us pr)) Failed)
     unfolding firstOf profileConditions valueOr
-    by-user absent pr h l = (told, λ w p n. h (n .told .occurs))
+    by-user absent pr h l = (told, λ w p n. not-both VAR USER vs w (n .told) h)
     by-user (present u) noProfile h l =
         choice (Sentence seed ps vs) (not (isName profileLimit u)) (unnamed u h)
         (λ _. (told, λ w p n. l p (n .occurs) (ap raised (one-user u w h (n .told)) ∙ n .name)))
@@ -142,8 +142,8 @@ module _ (seed : List ℕ) (eight : length seed ≡ seedLength) (version : ℕ) 
       → LooksUp (raised (valueOr [] us)) pr → Sentence seed ps vs (verdictOf (at cs of us pr))
   unfolding verdictOf conditions firstOf
   sound-at absent absent us pr f g h l = (f, g)
-  sound-at absent (present o) us pr f g h l = by-user (inr (g .occurs)) absent (present o) f g us pr h l
-  sound-at (present s) of us pr f g h l = by-user (inl (f .occurs)) (present s) of f g us pr h l
+  sound-at absent (present o) us pr f g h l = by-user (inr (o, g)) absent (present o) f g us pr h l
+  sound-at (present s) of us pr f g h l = by-user (inl (s, f)) (present s) of f g us pr h l
 
   pub sound : Sentence seed ps vs (verdictOf (attempt seed ps vs))
   unfolding attemptBy attempt

@@ -11,7 +11,7 @@ use borrow.Author.Tests.{eq-eqb, eqb-true, not-false}
 use Rattle.octets.specs.Bytes.{Bytes}
 use Rattle.octets.specs.Choice.{if_then_else_}
 use Rattle.octets.proofs.Choice.{choice}
-use Rattle.env.specs.Variable.{Variable, repeated}
+use Rattle.env.specs.Variable.{Variable, USERVAR, repeated}
 use Rattle.env.specs.Read.{Reading, says, notRead, readingOf}
 use Rattle.env.proofs.Sound.{Reads, reads}
 use Rattle.profile.specs.Profile.{shapeOf, Profile, enabled}
@@ -23,10 +23,11 @@ use Rattle.signon.specs.declared.Verdict.{Verdict}
 use Rattle.signon.specs.declared.Verdict.the-variants.{Panel, NotKnown, Disabled, Failed, Grant}
 use Rattle.signon.specs.declared.Answer.{Answer}
 use Rattle.signon.specs.declared.Answer.the-variants.{Given, Refused}
-use Rattle.signon.specs.Attempt.{attempt}
+use Rattle.signon.specs.Attempt.{IBMRSEED, IBMSUBSPW, attempt}
 use Rattle.signon.specs.Verdict.{verdictOf, answerBy, answerOf}
 use Rattle.signon.specs.Theorems.{OneTold, NamedWith, Sentence, Session, Readable, InTableAndEnabled}
 use Rattle.signon.specs.Theorems.{VerdictIsItsSentence, NoVerdictIfRefused, OnlyEnabledGranted}
+use Rattle.signon.proofs.Lookups.{not-both}
 use Rattle.signon.proofs.Sentences.{one-profile, sound}
 
 refused-given : {A : Type 0} {n : ℕ} {v : Verdict} → Refused n ≡ Given v → A
@@ -38,7 +39,7 @@ given-same e = cc
 -- no two sentences hold at once
 module _ (seed : List ℕ) (eight : length seed ≡ seedLength) (version : ℕ) (ps : List Profile) (asc : Ascending (shapeOf version) [] ps) (vs : List Variable) (once : repeated vs ≡ false) where
   panel-only : Sentence seed ps vs Panel → OneTold vs → ⊥
-  panel-only s t = ⊎-elim (s .0) (s .1) t
+  panel-only s = ⊎-elim (λ t. not-both USERVAR IBMRSEED vs (t .0) (t .1) (s .0)) (λ t. not-both USERVAR IBMSUBSPW vs (t .0) (t .1) (s .1))
 
   off-or-on : NamedWith (λ p. enabled p ≡ false) ps vs → NamedWith (λ p. T (enabled p)) ps vs → ⊥
   off-or-on a b =
@@ -53,7 +54,7 @@ module _ (seed : List ℕ) (eight : length seed ≡ seedLength) (version : ℕ) 
   only Panel NotKnown s t = absurd (panel-only s (t .0))
   only Panel Disabled s t = absurd (panel-only s (t .0))
   only Panel Failed s t = absurd (panel-only s (t .0))
-  only Panel Grant s t = absurd (panel-only s (inl (t .seedTold .occurs)))
+  only Panel Grant s t = absurd (panel-only s (inl (t .clientSeed, t .seedTold)))
   only NotKnown Panel s t = absurd (panel-only t (s .0))
   only NotKnown NotKnown s t = refl
   only NotKnown Disabled s t = absurd (s .1 _ _ (t .1 .named))
@@ -69,7 +70,7 @@ module _ (seed : List ℕ) (eight : length seed ≡ seedLength) (version : ℕ) 
   only Failed Disabled s t = absurd (off-or-on (t .1) (s .1 .0))
   only Failed Failed s t = refl
   only Failed Grant s t = absurd (s .1 .1 t)
-  only Grant Panel s t = absurd (panel-only t (inl (s .seedTold .occurs)))
+  only Grant Panel s t = absurd (panel-only t (inl (s .clientSeed, s .seedTold)))
   only Grant NotKnown s t = absurd (t .1 _ _ (s .named))
   only Grant Disabled s t = absurd (off-or-on (t .1) (granted-on s))
   only Grant Failed s t = absurd (t .1 .1 s)

@@ -1,6 +1,6 @@
 -- What is proved of reasons (change request No. 1): the one that is given is the first that holds, it belongs to the
--- verdict that is given, and it is "granted" exactly where demand 2 grants. The proofs are in `proofs/Reasons.antt` and
--- `proofs/Conditions.antt`.
+-- verdict that is given, it is "granted" exactly where demand 2 grants, and undefined variables decide nothing. The
+-- proofs are in `proofs/Reasons.antt`, `proofs/Conditions.antt` and `proofs/Undefined.antt`.
 use mathlib.Core.Path.{_≡_}
 use mathlib.Core.Bool.{true, false}
 use mathlib.Core.List.{List, [], _∷_, _++_, map}
@@ -10,7 +10,9 @@ use lib.Dec.{T}
 use lib.ListN.{length}
 use Rattle.octets.specs.Ascii.{ascii}
 use Rattle.octets.specs.Bytes.{Bytes}
-use Rattle.env.specs.Variable.{Variable}
+use Rattle.env.specs.Variable.{Variable, definedOnes}
+use Rattle.env.specs.Read.{readingOf, says}
+use Rattle.env.specs.Write.{payloadOf}
 use Rattle.names.specs.Name.{isName, profileLimit}
 use Rattle.profile.specs.Profile.{Profile, desAllowed, storedDes, storedSha}
 use Rattle.password_sha.specs.Sha.{isPassword, PW-token, PW-SUB}
@@ -58,6 +60,14 @@ pub record GrantedExactly : Type 0 where
   pub grant : (seed table payload : List ℕ) → (explainOf seed table payload ≡ Because IsGranted) ↔ (answerOf seed table payload ≡ Given Grant)
   pub sentence : (seed table payload : List ℕ) (ps : List Profile) (vs : List Variable) → Bytes table → Session seed table payload ps vs
       → (explainOf seed table payload ≡ Because IsGranted) ↔ Granted seed ps vs
+
+-- "verdicts and reasons treat an undefined variable as absent" (change request No. 3): those of a payload that is read
+-- are those of it written without its undefined variables.
+abbrev pub UndefinedIsAbsent : Type 0
+UndefinedIsAbsent =
+    (payload : List ℕ) (first : ℕ) (vs : List Variable) → readingOf payload ≡ says first vs
+    → let without = payloadOf first (definedOnes vs) in
+    (seed table : List ℕ) → (answerOf seed table payload ≡ answerOf seed table without) × (explainOf seed table payload ≡ explainOf seed table without)
 
 -- a seed that is clear, and one that isn't
 abbrev pub Clear : List ℕ → Type 0

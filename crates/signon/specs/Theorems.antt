@@ -8,7 +8,7 @@ use Prim.Native.Nat.{ℕ}
 use lib.Dec.{T}
 use lib.ListN.{length, replicate}
 use Rattle.octets.specs.Bytes.{Bytes}
-use Rattle.env.specs.Variable.{Variable, VAR, USERVAR}
+use Rattle.env.specs.Variable.{undefined, defined, Variable, VAR, USERVAR}
 use Rattle.env.specs.Theorems as Env
 use Rattle.env.specs.Read as Read
 use Rattle.names.specs.Name.{raised}
@@ -24,14 +24,14 @@ use Rattle.signon.specs.declared.Answer.the-variants.{Given}
 use Rattle.signon.specs.Attempt.{USER, IBMRSEED, IBMSUBSPW}
 use Rattle.signon.specs.Verdict.{answerOf}
 
--- a variable of a kind and name with a value, somewhere among some
+-- a variable of a kind and name, defined with a value, somewhere among some
 pub record Told (vs : List Variable) (kind : ℕ) (name value : List ℕ) : Type 0 where
   pub occurs : Env.Occurs kind name vs
-  pub says : occurs .it .value ≡ value
+  pub says : occurs .it .value ≡ defined value
 
--- none of a kind and name
+-- none of a kind and name: "treat an undefined variable as absent" (change request No. 3)
 abbrev pub Untold : List Variable → (kind : ℕ) (name : List ℕ) → Type 0
-Untold vs kind name = Env.Occurs kind name vs → ⊥
+Untold vs kind name = (occurs : Env.Occurs kind name vs) → occurs .it .value ≡ undefined
 
 -- "the named profile": one of the table's, whose name is the value of VAR USER, raised
 pub record Named (ps : List Profile) (vs : List Variable) (user : List ℕ) (p : Profile) : Type 0 where
@@ -70,7 +70,7 @@ pub record Granted (serverSeed : List ℕ) (ps : List Profile) (vs : List Variab
 
 -- one of the two USERVARs is there
 abbrev pub OneTold : List Variable → Type 0
-OneTold vs = Env.Occurs USERVAR IBMRSEED vs ⊎ Env.Occurs USERVAR IBMSUBSPW vs
+OneTold vs = ((value : List ℕ) × Told vs USERVAR IBMRSEED value) ⊎ ((value : List ℕ) × Told vs USERVAR IBMSUBSPW value)
 
 -- no profile of the table is named
 abbrev pub NoneNamed : List Profile → List Variable → Type 0

@@ -6,7 +6,7 @@ use Prim.Native.Nat.{ℕ, _*_, _≤_}
 use native.Mathlib.Omega.{arith}
 use lib.ListN.{take, replicate}
 use Rattle.env.specs.Read.{Reading, says, notRead, readingOf}
-use Rattle.env.specs.Numbers.{recordWidth, variablesHeld}
+use Rattle.env.specs.Numbers.{recordWidth, listLimit, variablesHeld}
 use Rattle.env.proofs.Short.{Fitting, reading-fitting}
 use Rattle.env.proofs.Sound.{Reads, reads}
 use Rattle.env_delivery.specs.declared.Answer.{Answer}
@@ -17,14 +17,14 @@ use Rattle.telnet.specs.Event.{payloadLimit}
 
 -- room for every payload
 abbrev pub roomBytes : List ℕ
-roomBytes = replicate 1024 0
+roomBytes = replicate payloadLimit 0
 
 abbrev pub roomNumbers : List ℕ
-roomNumbers = replicate 320 0
+roomNumbers = replicate listLimit 0
 
 -- what an answer says of a payload: within the room, or refused
 abbrev pub Within : List ℕ → Answer → Type 0
-Within payload (Read first count used) = (used ≤ 1024) × (5 * count ≤ 320)
+Within payload (Read first count used) = (used ≤ payloadLimit) × (recordWidth * count ≤ listLimit)
 Within payload (Refused n) = readingOf payload ≡ notRead n
 
 within-by : (payload : List ℕ) (r : Reading) → readingOf payload ≡ r → Within payload (readInto payload roomBytes roomNumbers .answer)

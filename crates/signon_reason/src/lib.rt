@@ -1,6 +1,6 @@
 // Why a sign-on is answered as it is: of this session's server seed, the profile table and the payload of NEW-ENVIRON
 // that the client sent. What is right is said in the crate `signon`, in `specs/Reason.antt`. One call reads the payload
-// into 1,024 bytes and 320 numbers on the stack and takes one pass over the table.
+// into 1,024 bytes and 384 numbers on the stack and takes one pass over the table.
 ghost use mathlib.Core.Path.{_≡_};
 ghost use mathlib.Core.List.{List};
 ghost use Prim.Native.Nat.{ℕ};

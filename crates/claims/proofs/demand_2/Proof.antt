@@ -10,7 +10,9 @@ use Rattle.option_verbs.proofs.Heard.{heard-as-said}
 use Rattle.option_sides.proofs.Setting.{sets-one}
 use Rattle.option_line.proofs.Telling.{request-tells-all, receipt-tells-all}
 use Rattle.option_line.proofs.Hearing.{hear-tells, request-is-heard}
-use Rattle.env.proofs.ReadingBack.{reads-back as variables-read-back, reads-the-same}
+use Rattle.env.proofs.ReadingBack.{reads-back as variables-read-back}
+use Rattle.env.proofs.WritingBack.{writes-back as payloads-written-back}
+use Rattle.env.proofs.AsBefore.{reads-as-before}
 use Rattle.env.proofs.Holding.{holds-again}
 use Rattle.env_delivery.proofs.Meaning.{read-is-held, room-suffices}
 use Rattle.env_writer.proofs.Meaning.{wrote-reads-back}
@@ -26,12 +28,14 @@ use Rattle.password_check.proofs.Own.{own-password-gives, only-its-lengths}
 use Rattle.signon.proofs.Verdicts.{verdict-is-its-sentence, no-verdict-if-refused, only-enabled-granted}
 use Rattle.signon.proofs.Reasons.{reason-is-first, some-cause-holds, words-in-order, verdict-of-its-reason, granted-exactly}
 use Rattle.signon.proofs.Conditions.{conditions-say}
+use Rattle.signon.proofs.Undefined.{undefined-is-absent}
 use Rattle.startup.proofs.Records.{responses-are-right, figures}
 use Rattle.print_frame.proofs.Sentences.{frame-is-its-sentence}
 use Rattle.print_frame.proofs.Limits.{too-long-to-say}
 use Rattle.print_ledger.proofs.OnTheLine.{print-complete-reads-back, print-complete-is-a-frame}
 use Rattle.print_ledger.proofs.HeardBack.{prints-are-heard-back}
 use Rattle.claims.proofs.MadeSignsOn.{made-signs-on}
+use Rattle.claims.proofs.WrittenBack.{read-is-written-back}
 use Rattle.claims.proofs.Sections.{des-token-of-the-section, des-substitute-of-the-section, sha-token-of-the-section, sha-substitute-of-the-section}
 use Rattle.claims.proofs.demand_2.Statement.{statement}
 use Rattle.claims.proofs.demand_2.Tie as tie
@@ -59,7 +63,9 @@ returns c = record {
   receiptTells = receipt-tells-all;
   hearTells = hear-tells;
   variablesReadBack = variables-read-back;
-  variablesReadTheSame = reads-the-same;
+  payloadsWrittenBack = payloads-written-back;
+  readIsWrittenBack = read-is-written-back;
+  readsAsBefore = reads-as-before;
   variablesHeldAgain = holds-again;
   readIsHeld = read-is-held;
   wroteReadsBack = wrote-reads-back;
@@ -83,6 +89,7 @@ returns c = record {
   verdictIsItsSentence = verdict-is-its-sentence;
   noVerdictIfRefused = no-verdict-if-refused;
   onlyEnabledGranted = only-enabled-granted;
+  undefinedIsAbsent = undefined-is-absent;
   reasonIsFirst = reason-is-first;
   someCauseHolds = some-cause-holds;
   wordsInOrder = words-in-order;

@@ -1,6 +1,7 @@
 -- `claims::others` promises what the crates of the definitions prove. Assumes nothing.
 use Rattle.octets.proofs.Equality.{same-is-equal}
 use Rattle.words.proofs.Padding.{fewest-zero-bits}
+use Rattle.env.proofs.Undefined.{lookup-passes-over}
 use Rattle.env.proofs.Repeats.{is-both, among-is-occurs, repeated-is-twice}
 use Rattle.env.proofs.Boundary.{boundaries-read}
 use Rattle.env_search.proofs.Found.{finds-the-value, absent-where-none}
@@ -22,6 +23,7 @@ returns c = record {
   boundariesRead = boundaries-read;
   findsTheValue = finds-the-value;
   absentWhereNone = absent-where-none;
+  lookupPassesOver = lookup-passes-over;
   ownEbcdic = own-ebcdic;
   apart = apart;
   strictAndTotal = strict-and-total;

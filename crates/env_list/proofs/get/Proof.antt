@@ -63,7 +63,7 @@ stayed = (stay-none-slice (0 ∷ []) tt (plain (λ _. T.the-row)) yes, (stay-non
 
 -- zeros are a record
 blank-is : Is T.the-row blank (vals blank)
-blank-is = LL.owes T.the-type T′.the-laws blank ((refl, lit< tt), ((refl, lit< tt), ((refl, lit< tt), ((refl, lit< tt), ((refl, lit< tt), tt)))))
+blank-is = LL.owes T.the-type T′.the-laws blank ((refl, lit< tt), ((refl, lit< tt), ((refl, lit< tt), ((refl, lit< tt), ((refl, lit< tt), ((refl, lit< tt), tt))))))
 
 module _ {M : Type 1} (𝓤 : URA M) (H : Heap 𝓤) (A : Atoms 𝓤) (W : Given 𝓤 H A) (mem : Memory → SProp 𝓤) (run : Routine → Fun 𝓤) (κ : Lft) (q : Share)
     (b o : ℕ) (γ : GName) (ys : List VariableRecord) (i : ℕ) where
@@ -122,7 +122,7 @@ module _ {M : Type 1} (𝓤 : URA M) (H : Heap 𝓤) (A : Atoms 𝓤) (W : Given
         first ! $ branches ! (local ! 8 refl)
         (λ less.
         let l : i < length ys = ltb→lt i (length ys) less in
-        let fits : Fits w64 (i * 40) = scaled-fits i (length ys) 40 l (room .1) in
+        let fits : Fits w64 (i * 48) = scaled-fits i (length ys) 48 l (room .1) in
         lets ! 6 refl (bin ! (local ! 12 refl) (lit ! tt) fits) (tt, fits) $
         lets ! 4 refl (offset-to ! i (field-of ! 14 refl (sub ! 0 refl (whole !))) (local ! 6 refl)) (tt, tt) $
         -- what the slice owns is taken apart, and looked into
@@ -144,7 +144,7 @@ module _ {M : Type 1} (𝓤 : URA M) (H : Heap 𝓤) (A : Atoms 𝓤) (W : Given
         ends l₀ l₁ l₂ l₃ l₄ l₅ l₆ l₇ found refl g)))
         (λ over. skips ! $ exec ! C Λ (En l₀ l₁ l₂ l₃ l₄ l₅ l₆ l₇) body.t-4 (atRet (En l₀ l₁ l₂ l₃ l₄ l₅ l₆ l₇) Post) $
         lets ! 16 refl (agg ! (and-then ! (lit ! tt)
-        (and-then ! (lit ! tt) (and-then ! (lit ! tt) (and-then ! (lit ! tt) (and-then ! (lit ! tt) (no-more !))))))) (typed 𝓤 H A W blank blank-is) $
+        (and-then ! (lit ! tt) (and-then ! (lit ! tt) (and-then ! (lit ! tt) (and-then ! (lit ! tt) (and-then ! (lit ! tt) (no-more !)))))))) (typed 𝓤 H A W blank blank-is) $
         returns ! (look ! 16 refl) $ forget ! 8 refl $ forget ! 10 refl $ forget ! 12 refl $ forget ! 14 refl $ forget ! 16 refl $
         ends l₀ l₁ l₂ l₃ l₄ l₅ l₆ l₇ blank (sym (List·getD-eq-default ys blank {n = i} (nltb→le i (length ys) over))) blank-is)))))))))
 

@@ -133,7 +133,7 @@ module _ {M : Type 1} (𝓤 : URA M) (H : Heap 𝓤) (A : Atoms 𝓤) (W : Given
         first ! $ branches ! (local ! 8 refl)
         (λ less.
         let l : i < length ys = ltb→lt i (length ys) less in
-        let fits : Fits w64 (i * 40) = scaled-fits i (length ys) 40 l (room .1) in
+        let fits : Fits w64 (i * 48) = scaled-fits i (length ys) 48 l (room .1) in
         lets ! 6 refl (bin ! (local ! 14 refl) (lit ! tt) fits) (tt, fits) $
         lets ! 4 refl (offset-to ! i (field-of ! 16 refl (sub ! 0 refl (whole !))) (local ! 6 refl)) (tt, tt) $
         stores ! ys i v b o l gv (local ! 15 refl) (from ! (hop ! (look ! 7 refl) (stop !))) $

@@ -182,7 +182,7 @@ module _ {M : Type 1} (𝓤 : URA M) (H : Heap 𝓤) (A : Atoms 𝓤) (W : Given
           (λ less. rewrite ! 11 (λ (t : Bool). ‵ (fat fullShare tyBool l₅ 0 (vbool t))) less refl $ stays ! (local ! 11 refl) $
           let lt : k < n = ltb→lt k n (subst Holds (sym less) tt) in
           let l : k < length set-so-far = subst (λ (m : ℕ). k < m) (sym same) (lt-of-lt-of-le lt within) in
-          let fits-place : Fits w64 (k * 40) = scaled-fits k (length ys) 40 (lt-of-lt-of-le lt within) (room .1) in
+          let fits-place : Fits w64 (k * 48) = scaled-fits k (length ys) 48 (lt-of-lt-of-le lt within) (room .1) in
           let more : Upto = (k + 1, add-one-le lt) in
           -- what the numbers own is had twice, and `record_at` is handed one with the token
           move ! (4 ∷ []) $ use1 W (‵ Numbers ⊛ ‵ Numbers) (shr-slice-copy 𝓤 H A W (named 1) κ′ usize .twice y (s′ ∷ [])) $ split ! $

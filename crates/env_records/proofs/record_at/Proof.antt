@@ -61,12 +61,21 @@ mul-record-of-5 c = search needs
 shared-slice-read-record-of-5 : tie.Need-shared-slice-read-record-of-5
 shared-slice-read-record-of-5 c = search needs
 
+add-record-of-5 : tie.Need-add-record-of-5
+add-record-of-5 c = search needs
+
+mul-record-of-6 : tie.Need-mul-record-of-6
+mul-record-of-6 c = search needs
+
+shared-slice-read-record-of-6 : tie.Need-shared-slice-read-record-of-6
+shared-slice-read-record-of-6 c = search needs
+
 record-of-requires-2 : tie.Need-record-of-requires-2
 record-of-requires-2 c κs = search needs
 
 returns-2 : tie.Need-returns-2
 returns-2 c =
-    let s = c .before .before .before .before .before .before .before .before .args in
+    let s = c .before .before .before .before .before .before .before .before .before .args in
     rw (record-of (s .numbers .now) (s .i) (omega arith)) (simp (getD-drop, add-zero) (c .record-of2 .ensures))
 
 pub record-at-spec : {M : Type 1} → statement M
@@ -90,5 +99,8 @@ record-at-spec =
     add-record-of-4
     mul-record-of-5
     shared-slice-read-record-of-5
+    add-record-of-5
+    mul-record-of-6
+    shared-slice-read-record-of-6
     record-of-requires-2
     returns-2)

@@ -60,6 +60,15 @@ mul-numbers-5 c = search needs
 slice-write-numbers-5 : tie.Need-slice-write-numbers-5
 slice-write-numbers-5 c = simp length-set (omega arith)
 
+add-numbers-5 : tie.Need-add-numbers-5
+add-numbers-5 c = search needs
+
+mul-numbers-6 : tie.Need-mul-numbers-6
+mul-numbers-6 c = search needs
+
+slice-write-numbers-6 : tie.Need-slice-write-numbers-6
+slice-write-numbers-6 c = simp length-set (omega arith)
+
 same-length : tie.Need-same-length
 same-length c = search needs
 
@@ -91,5 +100,8 @@ set-record-spec =
     add-numbers-4
     mul-numbers-5
     slice-write-numbers-5
+    add-numbers-5
+    mul-numbers-6
+    slice-write-numbers-6
     same-length
     returns-2)

@@ -6,10 +6,9 @@ use Prim.Native.Nat.{_*_, _/_, _-_}
 use native.Mathlib.Omega.{arith}
 use borrow.Author.Needs.{needs}
 use lib.ListN.{length, drop}
-use Rattle.env.specs.Variable.{is}
-use Rattle.env_search.specs.Places.{placeOf}
+use Rattle.env_search.specs.Places.{isDefinedOf, placeOf}
 use Rattle.env_records.specs.Records.{recordAt}
-use Rattle.env.specs.Numbers.{recordWidth, variableOf}
+use Rattle.env.specs.Numbers.{recordWidth}
 use Rattle.env_search.proofs.SearchSteps.{place-step, place-end, tested}
 use Rattle.env_search.proofs.find.Statement.{statement}
 use Rattle.env_search.proofs.find.Tie as tie
@@ -26,18 +25,19 @@ loop-holds c = search needs
 record-at-requires : tie.Need-record-at-requires Inv-loop μ-loop
 record-at-requires c κs = search needs
 
-is-of-requires : tie.Need-is-of-requires Inv-loop μ-loop
-is-of-requires c κs = search needs
+is-defined-of-requires : tie.Need-is-defined-of-requires Inv-loop μ-loop
+is-defined-of-requires c κs = search needs
 
 -- the test of record i, by what it answered
-test : (c : tie.After-is-of Inv-loop μ-loop) → let l = c .before .before .before .loop in
+test : (c : tie.After-is-defined-of Inv-loop μ-loop) → let l = c .before .before .before .loop in
     let s = c .before .before .before .before .before .before .before .args in
-    (t : Bool) → c .is-of .result ≡ t → is (s .kind) (s .name .now) (variableOf (s .bytes .now) (recordAt (s .numbers .now) (l .i))) ≡ t
+    (t : Bool) → c .is-defined-of .result ≡ t → isDefinedOf (s .kind) (s .name .now) (s .bytes .now) (recordAt (s .numbers .now) (l .i)) ≡ t
 test c t e =
     let l = c .before .before .before .loop in
     let s = c .before .before .before .before .before .before .before .args in
     let read = c .before .record-at in
-    tested (s .kind) (s .name .now) (s .bytes .now) (s .numbers .now) (l .i) (read .result) (c .is-of .result) t (read .ensures) (c .is-of .ensures) e
+    tested (isDefinedOf (s .kind) (s .name .now) (s .bytes .now)) (s .numbers .now) (l .i) (read .result) (c .is-defined-of .result) t
+    (read .ensures) (c .is-defined-of .ensures) e
 
 returns : tie.Need-returns Inv-loop μ-loop
 returns c =
@@ -72,7 +72,7 @@ find-spec =
     μ-loop
     loop-holds
     record-at-requires
-    is-of-requires
+    is-defined-of-requires
     returns
     add-i
     loop-less

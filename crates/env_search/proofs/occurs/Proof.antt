@@ -37,7 +37,8 @@ test c t e =
     let l = c .before .before .before .loop in
     let s = c .before .before .before .before .before .before .before .args in
     let read = c .before .record-at in
-    tested (s .kind) (s .name .now) (s .bytes .now) (s .numbers .now) (l .i) (read .result) (c .is-of .result) t (read .ensures) (c .is-of .ensures) e
+    tested (λ r. is (s .kind) (s .name .now) (variableOf (s .bytes .now) r)) (s .numbers .now) (l .i) (read .result) (c .is-of .result) t
+    (read .ensures) (c .is-of .ensures) e
 
 returns : tie.Need-returns Inv-loop μ-loop
 returns c =

@@ -23,6 +23,7 @@ use Rattle.env_variables.proofs.+name+value.Lts-name as name-lts
 use Rattle.env_variables.proofs.value.Reads as value
 use Rattle.env_variables.proofs.value.Kinds as value-kinds
 use Rattle.env_variables.proofs.+name+value.Lts-value as value-lts
+use Rattle.env_variables.proofs.mark_at.Reads as mark-at-reads
 use Rattle.env_variables.proofs.opens.Reads as opens-reads
 use Rattle.env_variables.proofs.store.Reads as store-reads
 use Rattle.env_variables.proofs.take_text.Reads as take-text-reads
@@ -52,7 +53,8 @@ abbrev name-claims : ℕ → name-lts.Claims
 name-claims t = (opens-reads.Asked, opens-reads.Learnt, take-text-reads.Asked, take-text-reads.Learnt, value-below t, value.Post)
 
 abbrev value-claims : ℕ → value-lts.Claims
-value-claims t = (take-value-reads.Asked, take-value-reads.Learnt, store-reads.Asked, store-reads.Learnt, name-below t, name.Post)
+value-claims t =
+    (take-value-reads.Asked, take-value-reads.Learnt, mark-at-reads.Asked, mark-at-reads.Learnt, store-reads.Asked, store-reads.Learnt, name-below t, name.Post)
 
 -- the places of either reader whose facts several needs cite: the start from each of them, and what is known there
 module _ (t : ℕ) where
@@ -206,6 +208,9 @@ value-returns t c =
     let bad = took .ensures .bad (not-true (took .result .whole) (c .if1 .taken)) (a .k) in
     value-fault _ badEscape (a .kind) (a .at) (a .n) (a .k) _ _ bad
 
+value-mark-at-requires : (t : ℕ) → value-lts.Need-mark-at-requires (value-claims t) (value-at t) value.Post
+value-mark-at-requires t c κs = search needs
+
 value-store-requires : (t : ℕ) → value-lts.Need-store-requires (value-claims t) (value-at t) value.Post
 value-store-requires t c κs = search needs
 
@@ -237,14 +242,16 @@ value-returns-2 : (t : ℕ) → value-lts.Need-returns-2 (value-claims t) (value
 value-returns-2 t c =
     let more = c .before .before .before .before in
     let stored = more .before .before .before .before .before .before .before in
-    let w = stored .before .before in
+    let marked = stored .before in
+    let w = marked .before .before in
     let n = w .before .before .before .before in
     let s = value-start t n in
     let a = s .args in
     let took = n .take-value in
     let good = not-false (took .result .whole) (w .if1 .left) in
     value-turn (a .kind) (a .at) (a .n) (a .k) (a .rest .now) (a .bytes .now) _ (a .numbers .now) (took .result) _ _ _ (took .ensures) good
-    (omega (arith, s .pre)) (omega (arith, s .pre)) (omega (arith, s .pre)) (rw (to-the-end, stored .store .ensures) at (more .name .ensures))
+    (omega (arith, s .pre)) (omega (arith, s .pre)) (omega (arith, s .pre))
+    (rw (to-the-end, stored .store .ensures, marked .mark-at .ensures) at (more .name .ensures))
 
 pub +name+value-spec : {M : Type 1} → statement M
 +name+value-spec = close μ-name μ-value (λ t. name-lts.spec (name-claims t)
@@ -275,6 +282,7 @@ pub +name+value-spec : {M : Type 1} → statement M
     (value-take-value-requires t)
     (value-same-length t)
     (value-returns t)
+    (value-mark-at-requires t)
     (value-store-requires t)
     (value-sub-name t)
     (value-part-name-start t)

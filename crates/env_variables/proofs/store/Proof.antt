@@ -23,7 +23,7 @@ same-length c = search needs
 returns : tie.Need-returns
 returns c =
     let a = c .before .before .before .before .before .before .args in
-    let this = numbersOf (variableRecord (a .kind) (a .at) (a .n) (a .at + a .n) (a .m)) in
+    let this = numbersOf (variableRecord (a .kind) (a .at) (a .n) (a .at + a .n) (a .m) (a .mark)) in
     let fit : recordWidth * a .k + recordWidth ≤ length (a .numbers .now) = omega arith in
     let set = c .before .before .set-record .ensures in
     put-whole this (a .numbers .now) (recordWidth * a .k) fit (rw (c .before .before .before .record-of .ensures) at set)

@@ -9,12 +9,18 @@ use Rattle.env_text.specs.declared.Text.{Text}
 use Rattle.env_text.specs.Text.{textOf, endsText}
 use Rattle.env.specs.Variable.{VALUE}
 use Rattle.env.specs.Fields.{text, broken, row, rowOf}
+use Rattle.env.specs.Numbers.{DEFINED, UNDEFINED}
+use Rattle.octets.specs.Choice.{if_then_else_}
 use Rattle.octets.specs.Lent.{overwrite}
 
 -- a VALUE is at the front
 unfoldable pub givesValue : List ℕ → Bool
 givesValue [] = false
 givesValue (b ∷ bs) = eqb b VALUE
+
+-- the mark of the value that is at the front: undefined where there is no VALUE
+unfoldable pub markAt : List ℕ → ℕ
+markAt rest = if givesValue rest then DEFINED else UNDEFINED
 
 -- the text after the first byte of the rest: broken, or whole and put at a place of the buffer
 pub record IsTaken (rest bytes₀ : List ℕ) (at : ℕ) (r : Text) (bytes : List ℕ) : Type 0 where

@@ -1,12 +1,13 @@
--- `env_writer::put_variable` meets its contract: kind, name, VALUE and value, one after the other. Assumes nothing.
+-- `env_writer::put_variable` meets its contract: kind, name and value, one after the other. Assumes nothing.
 use mathlib.Core.Path.{_≡_, ap, _∙_}
 use mathlib.Core.List.{List}
 use Prim.Native.Nat.{ℕ, _+_, _≤_}
 use native.Mathlib.Omega.{arith}
 use lib.ListN.{length, set, length-set}
 use borrow.Author.Needs.{needs}
-use Rattle.env.specs.Variable.{VALUE, ESC}
-use Rattle.env.specs.Write.{escaped, writtenVariable}
+use Rattle.env.specs.Variable.{ESC}
+use Rattle.env.specs.Write.{escaped, writtenValue, writtenVariable}
+use Rattle.env.specs.Numbers.{variableOf}
 use Rattle.octets.specs.Part.{part}
 use Rattle.octets.specs.Lent.{overwrite}
 use Rattle.octets_marked.proofs.Marked.{put-whole}
@@ -19,25 +20,22 @@ abbrev name : tie.Start → List ℕ
 name s = escaped (part (s .args .bytes .now) (s .args .v .«name_at») (s .args .v .«name_length»))
 
 abbrev value : tie.Start → List ℕ
-value s = escaped (part (s .args .bytes .now) (s .args .v .«value_at») (s .args .v .«value_length»))
+value s = writtenValue (variableOf (s .args .bytes .now) (s .args .v) .value)
 
 good : (s : tie.Start) → Within (s .args .bytes .now) (s .args .v)
 good s = within (s .args .bytes .now) (s .args .v) (s .pre .0)
 
-room : (s : tie.Start) → s .args .at + (2 + length (name s) + length (value s)) ≤ length (s .args .out .now)
+room : (s : tie.Start) → s .args .at + (1 + length (name s) + length (value s)) ≤ length (s .args .out .now)
 room s = rw (length-written (s .args .bytes .now) (s .args .v)) at (s .pre .1)
 
 add-name-end : tie.Need-add-name-end
 add-name-end c = omega (arith, good (c .before .before .before))
 
-add-value-end : tie.Need-add-value-end
-add-value-end c = omega (arith, good (c .before .before .before .before))
-
 cast-out : tie.Need-cast-out
-cast-out c = omega (arith, good (c .before .before .before .before .before))
+cast-out c = omega (arith, good (c .before .before .before .before))
 
 slice-write-out : tie.Need-slice-write-out
-slice-write-out c = omega (arith, room (c .before .before .before .before .before))
+slice-write-out c = omega (arith, room (c .before .before .before .before))
 
 sub-put-marked : tie.Need-sub-put-marked
 sub-put-marked c = search needs
@@ -46,7 +44,7 @@ part-put-marked-start : tie.Need-part-put-marked-start
 part-put-marked-start c = search needs
 
 part-put-marked-end : tie.Need-part-put-marked-end
-part-put-marked-end c = good (c .before .before .before .before .before) .name
+part-put-marked-end c = good (c .before .before .before .before) .name
 
 add-put-marked : tie.Need-add-put-marked
 add-put-marked c = search needs
@@ -56,7 +54,7 @@ put-marked-requires c κs = search needs
 
 -- the start, from where the name has been put
 abbrev start : tie.After-put-marked → tie.Start
-start c = c .before .before .before .before .before .before .before .before
+start c = c .before .before .before .before .before .before .before
 
 -- the buffer as the name leaves it
 abbrev left : tie.After-put-marked → List ℕ
@@ -78,47 +76,31 @@ named c =
 kept : (c : tie.After-put-marked) → length (left c) ≡ length (start c .args .out .now)
 kept c = c .put-marked .kept .1 .1 .1 .1 .0 ∙ simp length-set
 
--- after the name there is room for VALUE and the value
-room-left : (c : tie.After-put-marked) → c .put-marked .result + 1 + length (value (start c)) ≤ length (start c .args .out .now)
-room-left c = omega (arith, room (start c), named c .0)
+-- after the name there is room for the value
+room-left : (c : tie.After-put-marked) → c .put-marked .result + length (value (start c)) ≤ length (left c)
+room-left c = omega (arith, room (start c), named c .0, kept c)
 
-slice-write-out-2 : tie.Need-slice-write-out-2
-slice-write-out-2 c = omega (arith, room-left (c .before .before), kept (c .before .before))
-
-sub-put-marked-2 : tie.Need-sub-put-marked-2
-sub-put-marked-2 c = search needs
-
-part-put-marked-start-2 : tie.Need-part-put-marked-start-2
-part-put-marked-start-2 c = search needs
-
-part-put-marked-end-2 : tie.Need-part-put-marked-end-2
-part-put-marked-end-2 c = good (start (c .before .before)) .value
-
-add-put-marked-2 : tie.Need-add-put-marked-2
-add-put-marked-2 c = omega (arith, room-left (c .before .before .before .before))
-
-put-marked-requires-2 : tie.Need-put-marked-requires-2
-put-marked-requires-2 c κs = search needs
+put-value-requires : tie.Need-put-value-requires
+put-value-requires c κs =
+    let n = c .before .before .before in
+    (start n .pre .0, room-left n)
 
 same-length : tie.Need-same-length
 same-length c =
-    let n = c .before .before .before .before .before .before .before in
-    c .before .before .put-marked2 .kept .1 .1 .1 .1 .0 ∙ simp length-set (kept n)
+    let n = c .before .before .before .before .before .before in
+    c .before .before .put-value .kept .1 .1 .0 ∙ kept n
 
 returns : tie.Need-returns
 unfolding writtenVariable
 returns c =
-    let n = c .before .before .before .before .before .before .before in
+    let n = c .before .before .before .before .before .before in
     let s = start n in
     let v = s .args .v in
     let k = n .put-marked .result in
-    let before = set (left n) k VALUE in
-    let fits : k + 1 + length (value s) ≤ length before = simp length-set (omega (arith, room-left n, kept n)) in
-    let same = lent-marked (s .args .bytes .now) (v .«value_at») (v .«value_length») in
-    let last = put-whole ESC 0 3 _ before (k + 1) (value s) same fits (c .before .before .put-marked2 .ensures) in record {
-      place = omega (arith, last .0, named n .0, length-written (s .args .bytes .now) v);
-      lent = last .1 ∙ ap (λ l. overwrite (set l k VALUE) (k + 1) (value s)) (named n .1)
-          ∙ stored-variable (s .args .out .now) (s .args .at) k (v .kind) (name s) (value s) (named n .0) (room-left n);
+    let last = c .before .before .put-value .ensures in record {
+      place = omega (arith, last .place, named n .0, length-written (s .args .bytes .now) v);
+      lent = last .lent ∙ ap (λ l. overwrite l k (value s)) (named n .1)
+          ∙ stored-variable (s .args .out .now) (s .args .at) k (v .kind) (name s) (value s) (named n .0) (omega (arith, room-left n, kept n));
     }
 
 pub put-variable-spec : {M : Type 1} → statement M
@@ -126,7 +108,6 @@ put-variable-spec =
     tie.close
     (tie.spec
     add-name-end
-    add-value-end
     cast-out
     slice-write-out
     sub-put-marked
@@ -134,11 +115,6 @@ put-variable-spec =
     part-put-marked-end
     add-put-marked
     put-marked-requires
-    slice-write-out-2
-    sub-put-marked-2
-    part-put-marked-start-2
-    part-put-marked-end-2
-    add-put-marked-2
-    put-marked-requires-2
+    put-value-requires
     same-length
     returns)

@@ -149,7 +149,7 @@ module _ {M : Type 1} (𝓤 : URA M) (H : Heap 𝓤) (A : Atoms 𝓤) (W : Given
       (known-say : Triple 𝓤 (𝓣 .C #run-env-list·say-answer) (Say 𝓤 H A mem run))
       (room-p : Room u8 (length (p .now))) (room-x : Room u8 (length (x .now))) (gv : Is T.the-row v (vals v)) (within : n ≤ size) where
     room-n : Room T.the-row n
-    room-n = (lt-of-le-of-lt within (lit< tt), lt-of-le-of-lt (mul-le-mul-right 40 within) (lit< tt))
+    room-n = (lt-of-le-of-lt within (lit< tt), lt-of-le-of-lt (mul-le-mul-right 48 within) (lit< tt))
 
     walk : ent 𝓤 (onEntry 𝓤 H A all.signature (κ₀, (κ₁, tt)) (q₀, (q₁, tt)) a at)
         (WpFn 𝓤 H (𝓣 .C) (𝓣 .Λ) code.function (sp ∷ sx ∷ vint w64 n ∷ T′.lowered v ∷ []) Post)

@@ -6,6 +6,8 @@ use native.Mathlib.Nat.{sub-zero}
 use borrow.Author.Tests.{eq-eqb, ne-eqb}
 use lib.ListN.{length}
 use Rattle.env.specs.Read.{notRead, readingOf}
+use Rattle.env.specs.Numbers.{recordWidth, listLimit}
+use Rattle.telnet.specs.Event.{payloadLimit}
 use Rattle.profile.specs.Table.{tableOf}
 use Rattle.password_check.specs.Gives.{seedLength}
 use Rattle.signon.specs.Reason.{explainOf}
@@ -44,7 +46,7 @@ part-decide-start : tie.Need-part-decide-start
 part-decide-start c = search needs
 
 -- what was read lies within the room
-room : (c : tie.After-count) → (c .count .given .0 .1 .1 .0 ≤ 1024) × (5 * c .count .given .0 .1 .0 ≤ 320)
+room : (c : tie.After-count) → (c .count .given .0 .1 .1 .0 ≤ payloadLimit) × (recordWidth * c .count .given .0 .1 .0 ≤ listLimit)
 room c =
     let r = c .before .before .before .before .read in
     within (c .before .before .before .before .before .before .before .before .before .before .before .args .payload .now) (r .result) (r .last .1 .0) (r .last .1 .1 .0) (r .ensures) _ (c .count .given .1)
