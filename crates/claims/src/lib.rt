@@ -3,6 +3,8 @@
 // `Demand2.antt` and `Demand3.antt`.
 //
 // Which public functions are entry points is said in `Demand1.antt`.
+#![tactic(auto)]
+
 ghost use Rattle.claims.specs.Demand3.{Demand3};
 ghost use Rattle.claims.specs.Demand1.{Demand1};
 ghost use Rattle.claims.specs.Demand1C.{Demand1C};

@@ -1,5 +1,7 @@
 // Enciphering by DES, and cipher block chaining from zeros. What is right is said in the crate `des` (FIPS 46, figures
 // 1 and 2).
+#![tactic(auto)]
+
 mod boxes;
 mod chain;
 mod cipher;

@@ -1,5 +1,7 @@
 // The permutations of DES by tables of places: the initial one, its inverse, and permuted choice 1. What is right is
 // said in the crate `des`.
+#![tactic(auto)]
+
 ghost use Rattle.std.specs.Prelude.{◌≡◌, ◌≤◌, T, length};
 ghost use Rattle.des.specs.Blocks.{permuted};
 ghost use Rattle.des_permutation.specs.Internal.Within.{places_within};

@@ -1,5 +1,7 @@
 // Keys: the DES key of a password, and the round keys of a key. What is right is said in the crate `des` (FIPS 46,
 // figure 3) and in `specs/Password.antt`.
+#![tactic(auto)]
+
 ghost use Rattle.std.specs.Prelude.{◌≡◌, ◌+◌, ◌*◌, ◌/◌, ◌%◌, ◌^◌, ◌<◌, get_or};
 ghost use Rattle.des.specs.Blocks.{permuted, groups};
 ghost use Rattle.des_schedule.specs.Password.{prepared};

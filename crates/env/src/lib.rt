@@ -4,6 +4,8 @@
 
 // The codes of a payload (RFC 1572): its first byte, the kinds of a variable, VALUE before a value, and ESC before a
 // byte from VAR to USERVAR in a name or a value.
+#![tactic(auto)]
+
 pub const IS: u8 = 0;
 
 pub const INFO: u8 = 2;

@@ -1,5 +1,7 @@
 // The first bytes of a payload and the kinds of a variable. What is right is said in the crate `env`, in
 // `specs/Variable.antt`.
+#![tactic(auto)]
+
 ghost use Rattle.std.specs.Prelude.{◌≡◌};
 ghost use Rattle.env.specs.Variable.{is_first, is_kind};
 

@@ -1,4 +1,6 @@
 // Environment strings: what a payload's reader answers, and what it leaves in the buffer and the list that it is lent.
+#![tactic(auto)]
+
 ghost use Rattle.std.specs.Prelude.{◌≡◌, ◌≤◌, length};
 ghost use Rattle.env_delivery.specs.Promise.{delivery, hand_over, deliver_read};
 ghost use Rattle.octets.specs.Lent.{overwrite};

@@ -1,4 +1,6 @@
 // The lent list of variable records as a slice of structs.
+#![tactic(auto)]
+
 ghost use Rattle.std.specs.Prelude.{◌≡◌, ◌++◌, ◌≤◌, length, drop, get_or};
 ghost use Rattle.env_list.specs.Internal.Firsts.{first_records, count_of, Numbered};
 ghost use Rattle.env_records.specs.Records.{blank};

@@ -1,6 +1,8 @@
 // Environment strings: reading a payload of NEW-ENVIRON. What is right is said in the crate `env`; what is answered,
 // and left in buffer and list, in the crate `env_delivery`. Here its first byte is read; what comes after it is read
 // in the crate `env_variables`.
+#![tactic(auto)]
+
 ghost use Rattle.std.specs.Prelude.{◌≡◌};
 ghost use Rattle.env_delivery.specs.Promise.{delivery, read_into};
 

@@ -1,4 +1,6 @@
 // The list of variable records over a slice of numbers, RECORD_WIDTH for each record.
+#![tactic(auto)]
+
 ghost use Rattle.std.specs.Prelude.{◌≡◌, ◌+◌, ◌*◌, leb};
 ghost use Rattle.env_records.specs.Records.{record_at};
 ghost use Rattle.env.specs.Numbers.{record_width, variable_record, numbers_of};

@@ -1,4 +1,6 @@
 // The search in a list of variable records: the value of a kind and name, and whether a kind and name repeats.
+#![tactic(auto)]
+
 ghost use Rattle.std.specs.Prelude.{◌≡◌, [], ◌+◌, ◌*◌, ◌/◌, ◌<◌, length, drop};
 ghost use Rattle.env_search.specs.Places.{is_defined_of, place_of};
 ghost use Rattle.env_records.specs.Records.{record_at};

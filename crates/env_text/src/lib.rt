@@ -1,4 +1,6 @@
 // Names and values in a payload: bytes up to a VAR, VALUE or USERVAR, an ESC before each byte 0 to 3.
+#![tactic(auto)]
+
 ghost use Rattle.std.specs.Prelude.{◌≡◌, ◌≤◌, length, drop};
 ghost use Rattle.env_text.specs.Text.{ends_text, text_at, copy_text};
 ghost use Rattle.env_text.specs.Internal.Scan.{IsWidth, IsExtent};

@@ -2,6 +2,8 @@
 // what is answered, and left in buffer and list, in the crate `env_delivery`. A name gives way to its value and a value
 // to the next name: the two readers call each other, each on the part of the payload that is left. They fill a buffer
 // and a list of the reader's own; what is lent is touched only when nothing can be refused any more.
+#![tactic(auto)]
+
 ghost use Rattle.std.specs.Prelude.{true, ◌≡◌, ◌+◌, ◌*◌, ◌≤◌, ◌<◌, length};
 ghost use Rattle.env_variables.specs.Internal.Found.{buffers, NameRead};
 ghost use Rattle.env_variables.specs.Internal.Texts.{gives_value, mark_at, IsTaken};

@@ -1,5 +1,7 @@
 // Environment strings: writing a payload of NEW-ENVIRON. What is right is said in the crate `env`; what is answered,
 // and left in the buffer, in `specs/Promise.antt`.
+#![tactic(auto)]
+
 ghost use Rattle.std.specs.Prelude.{◌≡◌, true, List, ℕ, ◌+◌, min, ◌≤◌, length};
 ghost use Rattle.env.specs.Write.{escaped, written_value, written_variable, written_variables, nameless};
 ghost use Rattle.env.specs.Numbers.{variable_of, variables_held, is_placed, placed};

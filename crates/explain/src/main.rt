@@ -1,6 +1,8 @@
 // Tells why a sign-on is answered as it is. Standard input is the 8-byte server seed, the length of the profile table in
 // two bytes, the higher first, the table, and the payload of NEW-ENVIRON that the client sent; at most 65,536 bytes.
 // Here is only input and output: what is printed is `signon_text::print`.
+#![tactic(auto)]
+
 use libc::{STDERR_FILENO, STDOUT_FILENO};
 use signon_text::{LIMIT, ROOM};
 

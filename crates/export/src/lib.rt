@@ -1,6 +1,8 @@
 // What the exported functions share: the kind of an event as three numbers, the kind that three numbers name, what a
 // writer answers, and marks. Which number stands for what is said in `specs/Numbers.antt`. The exports are in the
 // crates `export_telnet`, `export_option` and their like.
+#![tactic(auto)]
+
 ghost use Rattle.std.specs.Prelude.{◌≡◌};
 ghost use Rattle.export.specs.Numbers.{kind_numbers, verb_named, negotiation_named, kind_named, KindsNamed, mark, written_numbers};
 ghost use Rattle.telnet.specs.Event.{code};

@@ -3,6 +3,8 @@
 // every other field is 0. A slice is a pointer and a length. A list of variable records is a slice of numbers,
 // RECORD_WIDTH for each: its kind (0 VAR, 3 USERVAR), the place and the length of its name in a buffer, the place and
 // the length of its value there, and its mark (0 defined, 1 undefined; any but 0 reads as undefined).
+#![tactic(auto)]
+
 ghost use Rattle.std.specs.Prelude.{◌≡◌};
 ghost use Rattle.export_env.specs.Numbers.{payload_numbers, read_out, read_numbers, place_numbers};
 ghost use Rattle.export.specs.Numbers.{numbered, written_numbers};

@@ -1,5 +1,7 @@
 // The listing of a stream, for a caller in C. A `refusal` is 0 where there is none; else it is the refusal's number,
 // and the length is 0. A slice is a pointer and a length.
+#![tactic(auto)]
+
 ghost use Rattle.std.specs.Prelude.{◌≡◌};
 ghost use Rattle.export.specs.Numbers.{numbered, written_numbers};
 ghost use Rattle.telnet_reader.specs.Promise.{look_at};

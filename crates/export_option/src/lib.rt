@@ -1,5 +1,7 @@
 // The ten sides of a session, for a caller in C. States and answers are numbers: which number stands for what is said
 // at the structs and in `specs/Numbers.antt`. The caller keeps the sides and hands them in with each call.
+#![tactic(auto)]
+
 ghost use Rattle.std.specs.Prelude.{◌≡◌};
 ghost use Rattle.export_option.specs.Numbers.{side_number, side_named, pair_numbers, pair_named, sides_numbers, sides_named, whose_named, command_named};
 ghost use Rattle.export_option.specs.Numbers.{is_refusal, handed_back, answered_numbers, receive_named, sent_numbers, receive_on_named, SidesNamed};

@@ -2,6 +2,8 @@
 // at the structs and in `specs/Numbers.antt`. A `refusal` is 0 where there is none; else it is the refusal's number,
 // and every other field is 0. A slice is a pointer and a length. Seeds, and tokens and substitutes of DES, are numbers
 // of eight bytes, the first byte highest; those of SHA-1 are twenty bytes.
+#![tactic(auto)]
+
 ghost use Rattle.std.specs.Prelude.{◌≡◌, length};
 ghost use Rattle.export_password.specs.Numbers.{sha_length, block_numbers, hash_into, substitute_into};
 ghost use Rattle.password_des.specs.Answer.{des_token, des_substitute};

@@ -2,6 +2,8 @@
 // what is said at the structs and in `specs/Numbers.antt`. A `refusal` is 0 where there is none; else it is the
 // refusal's number, and every other field is 0, but that the ledger is handed back by the numbers that were given. A
 // slice is a pointer and a length.
+#![tactic(auto)]
+
 ghost use Rattle.std.specs.Prelude.{◌≡◌};
 ghost use Rattle.export_print.specs.Numbers.{direction_number, operation_number, read_numbers, frame_numbers, ledger_numbers, ledger_named};
 ghost use Rattle.export_print.specs.Numbers.{taken_numbers, completed_numbers, LedgerNamed};

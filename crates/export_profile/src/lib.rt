@@ -1,6 +1,8 @@
 // The profile table and the token maker, for a caller in C. Each function answers with numbers: which number stands for
 // what is said at the structs and in `specs/Numbers.antt`. A `refusal` is 0 where there is none; else it is the
 // refusal's number, and every other field is 0. A slice is a pointer and a length.
+#![tactic(auto)]
+
 ghost use Rattle.std.specs.Prelude.{◌≡◌};
 ghost use Rattle.export_profile.specs.Numbers.{table_numbers, found_numbers};
 ghost use Rattle.export.specs.Numbers.{numbered, written_numbers};

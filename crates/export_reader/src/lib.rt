@@ -1,6 +1,8 @@
 // The reader that takes a stream by fragments, for a caller in C. Which number stands for what is said at the structs
 // and in `specs/Numbers.antt`. The caller keeps the reader and an array of 1,024 bytes for it, and hands both in with
 // each call. A slice is a pointer and a length.
+#![tactic(auto)]
+
 ghost use Rattle.std.specs.Prelude.{◌≡◌};
 ghost use Rattle.telnet_fragments.specs.Promise.{fresh_reader};
 ghost use Rattle.export.specs.Numbers.{verb_named};

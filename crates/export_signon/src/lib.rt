@@ -1,6 +1,8 @@
 // Sign-on verdicts, their reasons and response records, for a caller in C. Each function answers with numbers: which
 // number stands for what is said at the structs and in `specs/Numbers.antt`. A `refusal` is 0 where there is none; else
 // it is the refusal's number, and every other field is 0. A slice is a pointer and a length.
+#![tactic(auto)]
+
 ghost use Rattle.std.specs.Prelude.{◌≡◌};
 ghost use Rattle.export_signon.specs.Numbers.{verdict_number, verdict_named, answer_numbers, VerdictNamed};
 ghost use Rattle.export_signon.specs.Numbers.{reason_number, explained_numbers, ReasonNumbered};

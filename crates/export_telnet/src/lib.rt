@@ -1,6 +1,8 @@
 // The events and records of a line, for a caller in C. Each function answers with numbers: which number stands for what
 // is said at the structs and in `specs/Numbers.antt`. A `refusal` is 0 where there is none; else it is the refusal's
 // number, and every other field is 0. A slice is a pointer and a length.
+#![tactic(auto)]
+
 ghost use Rattle.std.specs.Prelude.{◌≡◌};
 ghost use Rattle.export_telnet.specs.Numbers.{event_numbers, record_numbers, write_named};
 ghost use Rattle.export.specs.Numbers.{kind_named, numbered, written_numbers};

@@ -1,5 +1,7 @@
 // Lists the events of standard input, at most 65,536 bytes. Here is only input and output: what is printed is
 // `telnet_listing::print`.
+#![tactic(auto)]
+
 use libc::{STDERR_FILENO, STDOUT_FILENO};
 use telnet_listing::{LIMIT, ROOM};
 

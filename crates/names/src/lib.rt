@@ -1,6 +1,8 @@
 // Profile, device and system names, by value, and the EBCDIC of a byte. What is right of names, their
 // EBCDIC and their order is said in `specs/`; a text is put in EBCDIC by the crate `names_ebcdic`, and names are
 // compared by `names_order`.
+#![tactic(auto)]
+
 ghost use Rattle.std.specs.Prelude.{◌≡◌, ◌≤◌, length};
 ghost use Rattle.names.specs.Range.{every};
 ghost use Rattle.names.specs.Padding.{filled};

@@ -1,5 +1,7 @@
 // A text in EBCDIC, padded with blanks to a width. What is right is said in the crate `names`, in `specs/Ebcdic.antt`
 // and `specs/Padding.antt`.
+#![tactic(auto)]
+
 ghost use Rattle.std.specs.Prelude.{◌≡◌, ◌+◌, ◌-◌, get_or};
 ghost use Rattle.octets.specs.Lent.{outcome};
 ghost use Rattle.octets.specs.Promise.{put_at};

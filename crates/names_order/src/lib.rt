@@ -1,5 +1,7 @@
 // The order of names, and names as they are in a profile table: raised already. What is right is said in the crate
 // `names`, in `specs/Order.antt` and `specs/Name.antt`.
+#![tactic(auto)]
+
 ghost use Rattle.std.specs.Prelude.{◌≡◌};
 ghost use Rattle.names.specs.Range.{every};
 ghost use Rattle.names.specs.Name.{is_name_byte, is_raised_name};

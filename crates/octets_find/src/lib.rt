@@ -1,4 +1,6 @@
 // The first of a byte among lent bytes. What is right is said in the crate `octets`, in `specs/Find.antt`.
+#![tactic(auto)]
+
 ghost use Rattle.std.specs.Prelude.{◌≡◌, ◌+◌, ◌≤◌, ltb, length, drop};
 ghost use Rattle.octets.specs.Find.{up_to};
 

@@ -1,5 +1,7 @@
 // Texts with a mark before each byte of a range: a 255 before each 255 of a line, an ESC before each code of an
 // environment string.
+#![tactic(auto)]
+
 ghost use Rattle.std.specs.Prelude.{◌≡◌, true, ◌&&◌, [], ◌∷◌, ℕ, ◌+◌, ◌≤◌, leb, length, take, drop};
 ghost use Rattle.octets.specs.Lent.{outcome, overwrite, IsPut};
 ghost use Rattle.octets_marked.specs.Marked.{marked, put_marked};

@@ -1,5 +1,7 @@
 // A part of lent bytes, and one of them, for every place and length. What is right is said in the crate `octets`, in
 // `specs/Part.antt`.
+#![tactic(auto)]
+
 ghost use Rattle.std.specs.Prelude.{◌≡◌, ◌+◌, ◌-◌, min, get_or};
 ghost use Rattle.octets.specs.Part as octets;
 

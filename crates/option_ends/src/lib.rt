@@ -1,5 +1,7 @@
 // Two ends of one side of an option, with a line each way, under any list of calls. What holds of them is said in
 // `specs/`: start with `Ends.antt`; demand 3 is `Agreement.antt`.
+#![tactic(auto)]
+
 mod replaying;
 
 use option_rules::{Command, Side};

@@ -1,5 +1,7 @@
 // Option commands put on the line in the call that steps the sides: where a command finds no room, no step is taken.
 // What is right is said in `specs/Line.antt`; the rules are in the crates `option_rules` and `option_sides`.
+#![tactic(auto)]
+
 ghost use Rattle.std.specs.Prelude.{◌≡◌};
 ghost use Rattle.octets.specs.Lent.{outcome};
 ghost use Rattle.telnet.specs.Event.{negotiation};

@@ -1,5 +1,7 @@
 // The option rules: one side of one option by value. What is right is said in `specs/Table.antt`. The ten sides of a
 // session are in the crate `option_sides`; what two such ends do to each other is said in the crate `option_ends`.
+#![tactic(auto)]
+
 ghost use Rattle.std.specs.Prelude.{◌≡◌};
 ghost use Rattle.option_rules.specs.Table.{step_by, rules_of, on_receive, on_request};
 ghost use Rattle.option_rules.specs.Table as table;

@@ -1,5 +1,7 @@
 // The ten sides of a session. What is right is said in `specs/Session.antt`. The rules that step a side are in the
 // crate `option_rules`; what a side says as an option command of the line is in the crate `option_verbs`.
+#![tactic(auto)]
+
 mod session;
 
 use option_rules::Side;

@@ -1,4 +1,6 @@
 // "On" and "off" of a side as Telnet's four option commands. What is right is said in `specs/Verbs.antt`.
+#![tactic(auto)]
+
 ghost use Rattle.std.specs.Prelude.{◌≡◌};
 ghost use Rattle.option_verbs.specs.Verbs.{told_by, verb_for, command_for};
 

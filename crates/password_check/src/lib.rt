@@ -1,5 +1,7 @@
 // Whether what a client offers is what a stored token gives. No token is handed out: a refused hash is twenty zeros,
 // and zeros may be stored. What is right is said in `specs/Gives.antt`.
+#![tactic(auto)]
+
 ghost use Rattle.std.specs.Prelude.{◌≡◌};
 ghost use Rattle.password_check.specs.Gives.{gives_clear, are_seeds, gives_des, gives_sha};
 

@@ -1,5 +1,7 @@
 // Password tokens and substitutes by DES (RFC 4777, section 5.1). A block of eight bytes is a number, its first byte
 // the highest. What is right is said in `specs/`: `Des.antt` has the section's steps, `Answer.antt` the refusals.
+#![tactic(auto)]
+
 ghost use Rattle.std.specs.Prelude.{◌≡◌, ◌*◌, ◌<◌, ◌≤◌, length, take};
 ghost use Rattle.names.specs.Ebcdic.{blank, ebcdic_of};
 ghost use Rattle.names.specs.Padding.{filled};

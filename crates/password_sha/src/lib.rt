@@ -1,5 +1,7 @@
 // Password tokens and substitutes by SHA-1 (RFC 4777, section 5.2). What is right is said in `specs/`: `Sha.antt` has
 // the section's steps, `Answer.antt` the refusals.
+#![tactic(auto)]
+
 ghost use Rattle.std.specs.Prelude.{true, ◌≡◌, ◌+◌, ◌*◌, ◌≤◌, length};
 ghost use Rattle.octets.specs.Lent.{overwrite};
 ghost use Rattle.words.specs.BigEndian.{bytes};

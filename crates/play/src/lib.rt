@@ -1,1 +1,3 @@
 // Definitions that the steps of a played session share.
+
+#![tactic(auto)]

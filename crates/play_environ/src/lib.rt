@@ -1,6 +1,8 @@
 // The second part of a printer session: the host asks for the environment, and the printer sends it, each in a
 // subnegotiation of NEW-ENVIRON. What passes the lines is said in `specs/Environment.antt`. What is said of it goes to
 // standard output, of which no contract speaks.
+#![tactic(auto)]
+
 ghost use Rattle.std.specs.Prelude.{◌≡◌};
 ghost use Rattle.octets.specs.Lent.{outcome};
 ghost use Rattle.show_event.specs.Sent.{sent_at};

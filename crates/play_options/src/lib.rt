@@ -1,6 +1,8 @@
 // The first part of a printer session: option commands both ways, until NEW-ENVIRON, TERMINAL-TYPE, END-OF-RECORD and
 // BINARY rest on. The host asks, the printer answers. What passes the lines is said in `specs/Negotiated.antt`. What is
 // said of it goes to standard output, of which no contract speaks.
+#![tactic(auto)]
+
 ghost use Rattle.std.specs.Prelude.{◌≡◌};
 ghost use Rattle.octets.specs.Lent.{outcome};
 ghost use Rattle.option_line.specs.Line.{sent};

@@ -1,6 +1,8 @@
 // The last part of a printer session: a print record in two runs with an option command between, the ledger, and print
 // complete back. What passes the lines is said in `specs/Order.antt`. What is said of it goes to standard output, of
 // which no contract speaks.
+#![tactic(auto)]
+
 ghost use Rattle.std.specs.Prelude.{◌≡◌};
 ghost use Rattle.octets.specs.Lent.{outcome};
 ghost use Rattle.show_event.specs.Sent.{sent_all};

@@ -1,5 +1,7 @@
 // The fourth part of a printer session: the start-up response record. What passes the line is said in
 // `specs/Responded.antt`. What is said of it goes to standard output, of which no contract speaks.
+#![tactic(auto)]
+
 ghost use Rattle.std.specs.Prelude.{◌≡◌, false};
 ghost use Rattle.octets.specs.Lent.{outcome};
 ghost use Rattle.startup.specs.Response.{response_of};

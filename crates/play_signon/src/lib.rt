@@ -1,6 +1,8 @@
 // The third part of a printer session: the host's verdict on what the printer told. What is right is said in
 // `specs/Judged.antt` and in the crate `signon`. What is said of it goes to standard output, of which no contract
 // speaks.
+#![tactic(auto)]
+
 ghost use Rattle.std.specs.Prelude.{◌≡◌};
 ghost use Rattle.signon.specs.Verdict.{answer_of};
 ghost use Rattle.play.specs.Seed.{server_seed};

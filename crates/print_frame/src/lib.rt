@@ -1,4 +1,6 @@
 // Printer pass-through frames (RFC 4777, section 11). What is right is said in `specs/Frame.antt`.
+#![tactic(auto)]
+
 ghost use Rattle.std.specs.Prelude.{◌≡◌, ◌+◌, ◌≤◌, ◌<◌, length};
 ghost use Rattle.print_frame.specs.Frame.{number_at, is_flow, direction_of, flags_of, is_reserved, is_operation, operation_of};
 ghost use Rattle.print_frame.specs.Frame.{structure_length, header_length, data_place, said, header_of, frame_of};

@@ -1,5 +1,7 @@
 // The ledger that holds one print record until the device has printed it. What is right is said in `specs/`:
 // `Ledger.antt`, then `History.antt` and `Theorems.antt`.
+#![tactic(auto)]
+
 ghost use Rattle.std.specs.Prelude.{◌≡◌};
 ghost use Rattle.print_ledger.specs.Ledger.{fresh, after_frame, printed, cleared, taken, take_frame, after_completion, complete_into};
 ghost use Rattle.octets.specs.Lent.{outcome};

@@ -1,5 +1,7 @@
 // The token maker: one record of a profile table from a name, a password and two marks. What is right is said in
 // `specs/`: `Made.antt` has the profile, `Promise.antt` the refusals.
+#![tactic(auto)]
+
 ghost use Rattle.std.specs.Prelude.{true, ◌≡◌, [], ◌∷◌, ◌+◌, ◌≤◌, length};
 ghost use Rattle.octets.specs.Lent.{outcome, overwrite};
 ghost use Rattle.names.specs.Name.{raised, is_name, profile_limit};

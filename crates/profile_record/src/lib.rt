@@ -1,5 +1,7 @@
 // A record of a profile table, by the table's version, and the step from one record to the next, which every walk over
 // a table takes. What a record is, is said in the crate `profile`; what a step answers, in `specs/Step.antt`.
+#![tactic(auto)]
+
 ghost use Rattle.std.specs.Prelude.{◌≡◌, ◌+◌, ◌*◌, ◌^◌};
 ghost use Rattle.profile.specs.Profile.{shape_of, record_length};
 ghost use Rattle.profile.specs.Table.{is_record};

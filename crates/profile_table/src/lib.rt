@@ -1,6 +1,8 @@
 // The profile table: how many profiles it has, and the profile of a name. Both take one pass over the lent table and
 // look at each byte at most six times; nothing is copied but a name. What a table says is `profile`'s `table_of`; what
 // is answered is said in `specs/Answer.antt`.
+#![tactic(auto)]
+
 ghost use Rattle.std.specs.Prelude.{◌≡◌, ◌+◌, ◌≤◌, ◌<◌, [], length, drop};
 ghost use Rattle.names.specs.Name.{raised};
 ghost use Rattle.profile.specs.Table.{profile_count, name_length_at, profiles_from, table_of, shape_in, profile_in};

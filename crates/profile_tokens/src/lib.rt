@@ -1,4 +1,6 @@
 // The tokens of a profile, lent out of the table where its record is, and its marks.
+#![tactic(auto)]
+
 ghost use Rattle.std.specs.Prelude.{◌≡◌, ◌+◌, ◌<◌, take, drop};
 ghost use Rattle.profile.specs.Profile.{enabled as is_enabled, des_allowed, stored_des, stored_sha};
 ghost use Rattle.profile.specs.Table.{name_length_at, profile_in};

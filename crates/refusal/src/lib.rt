@@ -1,5 +1,7 @@
 // The refusal numbers of the specification, "Refusal numbers", each by name. The same names are in
 // `specs/Refusal.antt` for the definitions; `table` ties the two lists to each other.
+#![tactic(auto)]
+
 ghost use Rattle.std.specs.Prelude.{◌≡◌};
 ghost use Rattle.refusal.specs.Refusal.{numbers};
 

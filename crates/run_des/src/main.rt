@@ -6,6 +6,8 @@
 // 46's tables, in which the low six bits of a group count (`docs/DECISIONS.md`, D1). Last comes the CBC example of FIPS
 // 81 (key 0123456789ABCDEF, "Now is the time for all "), cut after no, one, two and three blocks. Its initialization
 // vector 1234567890ABCDEF is added to the first block, since the chain here starts from zeros.
+#![tactic(auto)]
+
 ghost use Rattle.std.specs.Prelude.{◌≤◌, length};
 
 fn eight(digits: &[u8]) -> [u8; 8] {

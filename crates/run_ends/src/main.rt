@@ -12,6 +12,8 @@
 // `stdout` is from a model of the specification's table and of its "Two ends, for demand 3", written from the paper in
 // another language and not from this program. Note 14 has no case: no list leads to it (the model walked all 54 pairs
 // of ends that there are). The nearest is an on under way to WantOff, which comes after an off.
+#![tactic(auto)]
+
 ghost use Rattle.std.specs.Prelude.{◌≡◌, ◌%◌};
 
 use option_ends::{Line, Peer, Replayed};

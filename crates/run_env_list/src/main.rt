@@ -5,6 +5,8 @@
 // The list is filled with records of 7s before the call, so that a line of output is that of `run_env_reader`: the
 // answer, all lent bytes, and the numbers of every lent record. `stdout` is that of `run_env_reader` for the same
 // cases.
+#![tactic(auto)]
+
 ghost use Rattle.std.specs.Prelude.{◌≤◌};
 
 use env::{RECORD_WIDTH, VariableRecord};

@@ -7,6 +7,8 @@
 // of RFC 4777 are its own bytes, and those of clients were captured; the others are for the refusals of the
 // specification, every two faults in either order, and each of its readings that is not the only one. `stdout` was made
 // by a Python rendering of RFC 1572 as the specification reads it, with change request No. 3.
+#![tactic(auto)]
+
 use env_delivery::Answer;
 
 fn say(text: &[u8]) {

@@ -6,6 +6,8 @@
 // value. The records are those that the payloads of RFC 4777 are read to, and others for the readings of the
 // specification. `stdout` was made by a Python rendering of RFC 1572 as the specification reads it, with change request
 // No. 3.
+#![tactic(auto)]
+
 use env_search::ValuePlace;
 use octets_part::part;
 use show_numbers::{number_at, put_numbers};

@@ -4,6 +4,8 @@
 //
 // A line of output has the title, what `set` answered, and the numbers of the record. `stdout` is by hand from the
 // promises of `env_list`.
+#![tactic(auto)]
+
 use env::VariableRecord;
 use env_list::{get, set};
 

@@ -7,6 +7,8 @@
 // reader's cases read is written again; the others are for the refusals of the specification and every two faults in
 // either order. `stdout` was made by a Python rendering of RFC 1572 as the specification reads it, with change request
 // No. 3.
+#![tactic(auto)]
+
 use octets_part::part;
 use refusal::Written;
 use show_numbers::{number_at, put_numbers};

@@ -7,6 +7,8 @@
 // over Python's hashlib and the DES of its package `cryptography`.
 
 // What the program prints for an input.
+#![tactic(auto)]
+
 fn say_printed(input: &[u8]) {
     let mut out = [0u8; signon_text::ROOM];
     let n = signon_text::print(input, &mut out);

@@ -4,6 +4,8 @@
 // were made by a Python script from the constants of include/tongvelvet.h and the specification's table of the option
 // rules: every number of every enum, both ways, numbers that name nothing, and what is written into eight bytes. Those
 // of frames and the ledger are in `run_export_print`, those of the verdicts in `run_export_signon`.
+#![tactic(auto)]
+
 use export_option::{TvPair, TvSides};
 use show_case::{say_numbers, say_values};
 

@@ -6,6 +6,8 @@
 // which are 7777 before. `stdin` and `stdout` were made by a Python script from the constants of include/tongvelvet.h
 // and RFC 1572 as the specification reads it ("Environment strings", "Refusal numbers"): every refusal, which comes
 // first, and each room with one less.
+#![tactic(auto)]
+
 use show_case::{say_bytes, say_numbers};
 
 fn read(payload: &[u8], bytes: &mut [u8], numbers: &mut [usize]) {

@@ -6,6 +6,8 @@
 // and RFC 1572 as the specification reads it ("Environment strings", "Refusal numbers"): every refusal, which comes
 // first over the whole list, sums that would wrap, and each room with one byte less.
 
+#![tactic(auto)]
+
 fn write(first: u8, bytes: &[u8], numbers: &[usize], out: &mut [u8]) {
     let w = export_env::tv_env_write(first, bytes, numbers, out);
     show_case::say_numbers(&[w.refusal as usize, w.length]);

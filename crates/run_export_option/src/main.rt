@@ -6,6 +6,8 @@
 // script from the constants of include/tongvelvet.h and the specification's table of the option rules: every cell,
 // every option and side, every refusal, which comes first, numbers that name no state, and each room with one byte
 // less.
+#![tactic(auto)]
+
 use export_option::{TvPair, TvSent, TvSides};
 
 // What a byte of the case says.

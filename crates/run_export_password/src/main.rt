@@ -6,6 +6,8 @@
 // constants of include/tongvelvet.h, RFC 4777 (sections 5.1 and 5.2, with their examples), FIPS 46-3 and Python's
 // hashlib: every length that is treated in its own way, every refusal, which comes first, and each room with a byte
 // less.
+#![tactic(auto)]
+
 use export::TvWritten;
 use export_password::TvBlock;
 use show_case::say_numbers;

@@ -3,6 +3,8 @@
 // numbers of the answer in the order of its struct, and what was written. `stdin` and `stdout` were made by a Python
 // script from the constants of include/tongvelvet.h, the specification's frames and those of `run_print_frame`: every
 // number of every enum, both ways, and numbers that name nothing.
+#![tactic(auto)]
+
 use export_print::TvLedger;
 use show_case::{say_numbers, say_values};
 

@@ -6,6 +6,8 @@
 // buffer that was lent, to its end; it is 2E before. `stdin` and `stdout` were made by a Python script from the
 // constants of include/tongvelvet.h and the specification ("Tokens, substitutes, verdicts", "Refusal numbers"): every
 // mark, every refusal, which comes first, the 500th and the 501st profile, and each room with one byte less.
+#![tactic(auto)]
+
 use show_case::say_numbers;
 
 fn check(table: &[u8]) {

@@ -4,6 +4,8 @@
 // and the buffer that was lent, to its end; it is EE before. `stdin` and `stdout` were made by a Python script from the
 // constants of include/tongvelvet.h and the specification ("Framing", "Refusal numbers", the listing's lines): every
 // kind of event, every refusal at its boundary, which comes first, and each room with one byte less.
+#![tactic(auto)]
+
 use export::TvWritten;
 use show_case::{say_bytes, say_numbers};
 

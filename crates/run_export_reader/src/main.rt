@@ -13,6 +13,8 @@
 // and the bytes of the array up to the reader's count. `stdin` and `stdout` were made by a Python script from the
 // constants of include/tongvelvet.h, the specification ("Framing") and change request No. 2: every stage, the stages of
 // a forged reader, which numbers name none, and what a refusal and a faulted reader hand back.
+#![tactic(auto)]
+
 use export_reader::TvReader;
 use show_case::{say_bytes, say_numbers};
 use telnet::PAYLOAD_LIMIT;

@@ -3,6 +3,8 @@
 // numbers of the answer in the order of its struct, and the code that was written, or the whole record in the room that
 // was lent. `stdin` and `stdout` were made by a Python script from the constants of include/tongvelvet.h and the
 // records of `run_startup`: every verdict, and numbers that name none.
+#![tactic(auto)]
+
 use show_case::{say_numbers, say_values};
 
 // The response code of the record, in EBCDIC.

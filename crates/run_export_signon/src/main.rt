@@ -3,6 +3,8 @@
 // the answer in the order of its struct. `stdin` and `stdout` were made by a Python script from the constants of
 // include/tongvelvet.h, the sign-ons of `run_signon` and those of `run_explain`: every verdict, and every reason.
 // Response records are in `run_export_response`.
+#![tactic(auto)]
+
 use show_case::say_values;
 
 // A sign-on: the seed has eight bytes, then the length of the table, the table and the payload.

@@ -5,6 +5,8 @@
 // A line of output has the name, the part announced, a stroke, and what is left after it. The input is read in three:
 // sixteen bytes, which fill their buffer, the rest, and once more at its end; how many bytes each found is said.
 // `stdout` was made by a Python rendering of change request No. 1.
+#![tactic(auto)]
+
 use octets_part::part;
 use show_input::Input;
 

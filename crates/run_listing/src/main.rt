@@ -1,5 +1,7 @@
 // What the listing program prints at its limits: for the 65,536 bytes with the longest listing known, for one byte
 // more, and for no byte. The program prints how many bytes that is, and the last line of it.
+#![tactic(auto)]
+
 ghost use Rattle.std.specs.Prelude.{◌≡◌, ◌≤◌, length};
 
 use libc::STDOUT_FILENO;

@@ -8,6 +8,8 @@
 //
 // `stdout` is from the specification ("Tokens, substitutes, verdicts", "Response records"), with `docs/DECISIONS.md`,
 // N10 and N11, for what no name has.
+#![tactic(auto)]
+
 use names::Name;
 
 fn say(text: &[u8]) {

@@ -6,6 +6,8 @@
 // A line of output for each call has the number, the place after it, the states of our side and the other's of that
 // option, numbered as the rows of the specification's table from 0 on, and the line. For an option command the text is
 // that of its receipt in `run_option_line`; any other event leaves all as it is.
+#![tactic(auto)]
+
 use option_line::Sent;
 use option_rules::Side;
 use option_sides::Sides;

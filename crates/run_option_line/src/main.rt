@@ -7,6 +7,8 @@
 // A line of output for each call has the number, the place after it, the states of our side and the other's of that
 // option, numbered as the rows of the specification's table from 0 on, and the own line. `stdout` was made by a Python
 // rendering of that table and of RFC 854's framing.
+#![tactic(auto)]
+
 use option_line::Sent;
 use option_rules::{Command, Side};
 use option_sides::Sides;

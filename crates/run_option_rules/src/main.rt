@@ -6,6 +6,8 @@
 // A line of output has the name and the answer: the successor, the number, and the command that is sent, if any.
 // `stdout` is that table, cell by cell, and for an option not carried the sentence above it (`docs/DECISIONS.md`, O1 to
 // O3).
+#![tactic(auto)]
+
 use option_rules::{Command, Sending, Side, Step};
 
 fn say(text: &[u8]) {

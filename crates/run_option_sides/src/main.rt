@@ -7,6 +7,8 @@
 // number, what is written, and the states of our side and the other's, numbered as the rows of the specification's
 // table from 0 on. `stdout` is from RFC 854 (WILL is acknowledged by DO, DO by WILL; who sends WILL or WONT speaks of
 // his own side), that table, and the exchanges that RFC 4777 prints in sections 2 and 3.
+#![tactic(auto)]
+
 use option_rules::{Command, Sending, Side};
 use option_sides::{Answered, Sides};
 use option_verbs::{Outgoing, Told, Whose};

@@ -8,6 +8,8 @@
 // many bytes the name and the password have, and the two; a password that is given short goes on with `a`. The first
 // letter says what is computed: `D` the token and the substitute by DES, `S` by SHA-1, `R` the sequence number of the
 // server's seed, `P` whether the password is one for SHA-1, `s` whether the name and the password are the same.
+#![tactic(auto)]
+
 use password_des::Block;
 use password_sha::Hash;
 

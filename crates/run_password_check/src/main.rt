@@ -8,6 +8,8 @@
 // seeds of the server and of the client and what is offered have, and the five. The first letter says the test: `D` by
 // DES, `S` by SHA-1, `C` a clear password, without seeds.
 
+#![tactic(auto)]
+
 fn gives(
     letter: u8,
     token: &[u8],

@@ -6,6 +6,8 @@
 //
 //     r name: frame    a frame
 //     z name:          a frame of 65,536 zeros, which cannot say its length
+#![tactic(auto)]
+
 use print_frame::{Direction, Flags, Frame, FrameAnswer, Operation, Part};
 
 fn say(text: &[u8]) {

@@ -3,6 +3,8 @@
 //
 //     t name: frame     a frame, given to the ledger
 //     c name: output    a completion, into an output of these bytes
+#![tactic(auto)]
+
 use print_ledger::{Completion, Ledger, Receipt};
 
 fn say(text: &[u8]) {

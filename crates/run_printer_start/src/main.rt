@@ -10,6 +10,8 @@
 
 // The option commands of both ends come first, 18 bytes on either line; the printer signs on where the options rest on,
 // and the order is sent and heard back.
+#![tactic(auto)]
+
 fn main() {
     let mut table = [0u8; 512];
     let n = io::read_full(0, &mut table);

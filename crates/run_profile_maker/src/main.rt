@@ -5,6 +5,8 @@
 // A line of output is the answer and every lent byte after the call. `stdout` was computed by OpenSSL 3.0 (`des-ecb`)
 // and Python's hashlib, over a Python rendering of RFC 4777, sections 5.1 and 5.2, and of the specification ("Tokens,
 // substitutes, verdicts", "Refusal numbers" 4, 33 and 34).
+#![tactic(auto)]
+
 use refusal::Written;
 
 fn say_number(word: &[u8], n: usize) {

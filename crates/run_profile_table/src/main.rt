@@ -6,6 +6,8 @@
 // A line of output is how many profiles the table has, and then the place of the name's record, its two marks (01 where
 // one is set) and its two tokens. `stdout` was computed by a Python rendering of the specification ("Tokens,
 // substitutes, verdicts", "Refusal numbers" 30 to 32).
+#![tactic(auto)]
+
 use profile_table::{Entry, Found, TableCheck};
 
 fn say_number(word: &[u8], n: usize) {

@@ -6,6 +6,8 @@
 //     s name: first step count    the message of `count` bytes (a number of three bytes), each greater by the step than the one before, modulo 256
 //
 // A line of output is a digest.
+#![tactic(auto)]
+
 fn say(message: &[u8]) {
     let mut line = [b'\n'; 41];
     show::put_hex(&sha1_digest::digest(message), &mut line, 0);

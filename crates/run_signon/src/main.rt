@@ -7,6 +7,8 @@
 // sent. The tokens and substitutes in `stdin` are the RFC's or were computed by Python's hashlib and by the DES of its
 // package `cryptography`, with which OpenSSL 3.0 (`des-ecb`, `des-cbc`) agrees; `stdout` was made by a Python rendering
 // of the specification and of change request No. 3 over these.
+#![tactic(auto)]
+
 use signon::{Answer, Verdict};
 
 fn say(text: &[u8]) {

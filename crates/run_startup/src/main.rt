@@ -7,6 +7,8 @@
 // RFC 4777: figures 1 and 2 of section 10, and section 12. The others were computed by a Python rendering of the
 // figures and of the specification ("Response records", "Refusal numbers" 4 and 36), with Python's codec cp037 for
 // EBCDIC.
+#![tactic(auto)]
+
 use refusal::Written;
 use signon::Verdict;
 

@@ -12,6 +12,8 @@
 // the specification ("Framing") and change request No. 2: a rendering that keeps the raw bytes of what is unfinished.
 // They are the close in every stage, faults and what follows them, the 1,024th byte, the longest payload cut near its
 // end, and rooms.
+#![tactic(auto)]
+
 use show_case::{say_bytes, say_numbers};
 use telnet::PAYLOAD_LIMIT;
 use telnet_fragments::{Closed, Reader, Taken};

@@ -3,6 +3,8 @@
 //
 //     l name: stream        the listing of a stream
 //     p name: count tail    the listing of FF FA 18, `count` bytes 41 (a number of two bytes), and a tail
+#![tactic(auto)]
+
 use refusal::Written;
 
 fn say(text: &[u8]) {

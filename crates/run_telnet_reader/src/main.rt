@@ -5,6 +5,8 @@
 //     k name: place room stream    one record from a place on, likewise
 //
 // A line of output names the case; what follows is the answer with the bytes of the buffer, which are 2E before.
+#![tactic(auto)]
+
 use telnet_reader::Answer;
 use telnet_records::Record;
 

@@ -4,6 +4,8 @@
 // many bytes of data and how many events they gave in all: for a length the same wherever the cut is. The first four
 // are the sums that the readings of change request No. 2 print; the other two are of a Python script, which keeps the
 // raw bytes of what is unfinished.
+#![tactic(auto)]
+
 use show_case::say_numbers;
 use telnet::{Kind, PAYLOAD_LIMIT};
 use telnet_fragments::{Closed, Reader};

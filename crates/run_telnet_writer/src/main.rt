@@ -7,6 +7,8 @@
 //     x name: kind option room          the same with 1,025 bytes 00
 //
 // A line of output names the case; what follows is the answer with the bytes of the buffer, which are 2E before.
+#![tactic(auto)]
+
 use refusal::Written;
 use telnet::{Kind, Verb};
 

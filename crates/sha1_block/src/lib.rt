@@ -1,4 +1,6 @@
 // The hash value of SHA-1 and its change by blocks, section 6.1.2 of FIPS 180-4.
+#![tactic(auto)]
+
 ghost use Rattle.std.specs.Prelude.{◌≡◌, ◌+◌, ◌*◌, ◌<◌, ◌≤◌, [], ◌∷◌, ◌++◌, length, take, drop};
 ghost use Rattle.words.specs.BigEndian.{number};
 ghost use Rattle.words.specs.Blocks.{cut};

@@ -1,4 +1,6 @@
 // The SHA-1 digest of a message.
+#![tactic(auto)]
+
 mod padding;
 
 ghost use Rattle.std.specs.Prelude.{◌≡◌, ◌≤◌, length};

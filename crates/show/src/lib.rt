@@ -1,5 +1,7 @@
 // Text for programs that show what the libraries do: lines and hexadecimal digits in; bytes, words and numerals out,
 // put one after the other into a lent buffer. Each is total, and where something does not fit nothing is written.
+#![tactic(auto)]
+
 ghost use Rattle.std.specs.Prelude.{◌≡◌, ◌+◌, ◌≤◌, ◌<◌, length};
 ghost use Rattle.octets.specs.Decimal.{decimal};
 ghost use Rattle.octets.specs.Lent.{outcome, overwrite};

@@ -1,5 +1,7 @@
 // Cases of the programs that run calls and say their answers: a case is a line of a text, with a title, a colon, and
 // bytes in hexadecimal digits. What is said goes to standard output, of which no contract speaks.
+#![tactic(auto)]
+
 ghost use Rattle.std.specs.Prelude.{◌≡◌, ◌-◌, ◌≤◌, length};
 ghost use Rattle.octets.specs.Lent.{outcome};
 ghost use Rattle.show.specs.Promise.{hex_into};

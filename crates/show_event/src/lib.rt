@@ -1,5 +1,7 @@
 // Says an event of the line, for a program that shows a session: who sends it, the line that the listing has for it,
 // and what it is for. What is said goes to standard output, of which no contract speaks.
+#![tactic(auto)]
+
 ghost use Rattle.std.specs.Prelude.{◌≡◌, ◌/◌, length};
 ghost use Rattle.octets.specs.Lent.{outcome};
 ghost use Rattle.telnet.specs.Event.{event};

@@ -1,6 +1,8 @@
 // What programs do with their input: standard input read to its end, and the part that a two-byte length before it
 // announces. What that part is, is said in `specs/Cut.antt`. Of what is read no promise can tell more than how much of
 // the buffer it fills.
+#![tactic(auto)]
+
 ghost use Rattle.std.specs.Prelude.{◌≡◌, ◌+◌, ◌*◌, ◌++◌, get_or, drop};
 ghost use Rattle.io.specs.Counts.{IsPrefixLen};
 ghost use Rattle.show_input.specs.Cut.{announced_in, left_after};

@@ -1,4 +1,6 @@
 // Numbers that pairs of bytes say, for programs that show what the libraries do. Each is total.
+#![tactic(auto)]
+
 ghost use Rattle.std.specs.Prelude.{◌≡◌, drop};
 ghost use Rattle.octets.specs.Lent.{outcome};
 ghost use Rattle.show_numbers.specs.Numbers.{number_of, number_in, numbers_into};

@@ -2,6 +2,8 @@
 // `specs/Reason.antt`; what is proved of them is in `specs/Theorems.antt` and `specs/ReasonTheorems.antt`.
 
 // A verdict (the specification's own term).
+#![tactic(auto)]
+
 #[derive(Drop)]
 pub enum Verdict {
     Panel,

@@ -1,5 +1,7 @@
 // A sign-on as a payload's variables tell it, and the reason in two parts: what needs no profile, and what a profile
 // gives once it is found. What is right is said in `specs/Parts.antt` and in the crate `signon`.
+#![tactic(auto)]
+
 ghost use Rattle.std.specs.Prelude.{◌≡◌};
 ghost use Rattle.env.specs.Variable.{lookup};
 ghost use Rattle.env.specs.Numbers.{variables_held};

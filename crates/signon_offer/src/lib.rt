@@ -1,5 +1,7 @@
 // What a client offers at sign-on, against the profile of its user. What is right is said in the crate `signon`, in
 // `specs/Reason.antt`. What is offered is judged by its length first: at most one hash or cipher is computed.
+#![tactic(auto)]
+
 ghost use Rattle.std.specs.Prelude.{◌≡◌};
 ghost use Rattle.profile.specs.Table.{profile_in};
 ghost use Rattle.signon.specs.Attempt.{is_clear};

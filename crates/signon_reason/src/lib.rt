@@ -1,6 +1,8 @@
 // Why a sign-on is answered as it is: of this session's server seed, the profile table and the payload of NEW-ENVIRON
 // that the client sent. What is right is said in the crate `signon`, in `specs/Reason.antt`. One call reads the payload
 // into 1,024 bytes and 384 numbers on the stack and takes one pass over the table.
+#![tactic(auto)]
+
 ghost use Rattle.std.specs.Prelude.{◌≡◌, List, ℕ};
 ghost use Rattle.env.specs.Numbers.{variables_held};
 ghost use Rattle.env.specs.Read.{says, not_read};

@@ -1,4 +1,6 @@
 // The line that the program `explain` prints for its input. What is right is said in `specs/Printed.antt`.
+#![tactic(auto)]
+
 ghost use Rattle.std.specs.Prelude.{◌≡◌, ◌++◌};
 ghost use Rattle.octets.specs.Ascii.{ascii};
 ghost use Rattle.octets.specs.Decimal.{decimal};

@@ -1,5 +1,7 @@
 // The sign-on verdict: of this session's server seed, the profile table and the payload of NEW-ENVIRON that the client
 // sent. What is right is said in the crate `signon`. It is the verdict of the reason that `signon_reason::explain` gives.
+#![tactic(auto)]
+
 ghost use Rattle.std.specs.Prelude.{◌≡◌};
 ghost use Rattle.signon.specs.Verdict.{answer_of};
 ghost use Rattle.signon.specs.Reason.{verdict_for};

@@ -1,4 +1,6 @@
 // A reason as a line of text. Its words are said in the crate `signon`, in `specs/Reason.antt`.
+#![tactic(auto)]
+
 ghost use Rattle.std.specs.Prelude.{◌≡◌, ◌++◌, ◌<◌, length};
 ghost use Rattle.octets.specs.Ascii.{ascii};
 ghost use Rattle.octets.specs.Lent.{outcome, at_front};

@@ -1,4 +1,6 @@
 // Writes the start-up response record (RFC 4777, section 10). What is right is said in the crate `startup`.
+#![tactic(auto)]
+
 ghost use Rattle.std.specs.Prelude.{◌≡◌};
 ghost use Rattle.octets.specs.Lent.{outcome, overwrite};
 ghost use Rattle.startup.specs.Response.{code_of, fixed_fields};

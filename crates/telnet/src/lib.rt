@@ -4,6 +4,8 @@
 // fragments is in `telnet_fragments` and `telnet_feed`.
 
 // The codes of a line (RFC 854 and 855; EOR, RFC 885), and the most bytes of a payload.
+#![tactic(auto)]
+
 pub const EOR: u8 = 239;
 
 pub const SE: u8 = 240;

@@ -1,5 +1,7 @@
 // The scanning of data: a stretch of bytes of a line in which each 255 is doubled. What is answered, and left in a
 // buffer, is said in `specs/Promise.antt`.
+#![tactic(auto)]
+
 ghost use Rattle.std.specs.Prelude.{◌≡◌, ◌≤◌, min, length, drop};
 ghost use Rattle.octets.specs.Lent.{outcome};
 ghost use Rattle.telnet_data.specs.Promise.{extent_at, copy_run};

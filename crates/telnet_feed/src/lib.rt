@@ -1,6 +1,8 @@
 // The reader that takes a stream as the line delivers it, by fragments. It is a small value, handed in and back, and an
 // array that the caller lends with it, in which the payload of a subnegotiation is kept until it is whole. What is
 // right is said in the crate `telnet_fragments`.
+#![tactic(auto)]
+
 ghost use Rattle.std.specs.Prelude.{◌≡◌, ◌+◌, ◌≤◌, length, take};
 ghost use Rattle.octets.specs.Lent.{overwrite};
 ghost use Rattle.telnet.specs.declared.Kind.TheVariants.{Data as NoEvent};

@@ -1,6 +1,8 @@
 // A line's stream taken as it is delivered, by fragments: what one call gives, and what holds of every list of calls.
 // This crate has what is right, and no function: start with `specs/Call.antt`, then `specs/Promise.antt` and
 // `specs/Theorems.antt`. The code is in `telnet_feed`, over `telnet_pass` and `telnet_stage`.
+#![tactic(auto)]
+
 use telnet::{Kind, Verb};
 
 // The most bytes of a fragment that a call takes, and the room that it is lent at least.

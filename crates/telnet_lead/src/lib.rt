@@ -1,5 +1,7 @@
 // What a byte after a 255 begins, for every reader of a line. What is right is said in the crate `telnet`, in
 // `specs/Event.antt`.
+#![tactic(auto)]
+
 ghost use Rattle.std.specs.Prelude.{◌≡◌};
 ghost use Rattle.telnet.specs.Event.{lead};
 

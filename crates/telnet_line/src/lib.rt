@@ -1,4 +1,6 @@
 // The line of one event: its place, and what it is. What is right is said in `specs/`: start with `Line.antt`.
+#![tactic(auto)]
+
 ghost use Rattle.std.specs.Prelude.{◌≡◌, replicate};
 ghost use Rattle.octets.specs.Lent.{outcome};
 ghost use Rattle.telnet_line.specs.Line.{answer_text, line as line_of};

@@ -1,5 +1,7 @@
 // The listing of a stream: a line for each event, with its place, and one for how the stream ended. What is right is
 // said in `specs/`: start with `Listing.antt`.
+#![tactic(auto)]
+
 ghost use Rattle.std.specs.Prelude.{◌≡◌, ◌≤◌, length};
 ghost use Rattle.octets.specs.Lent.{outcome, at_front};
 ghost use Rattle.refusal.specs.Written.{written_into};

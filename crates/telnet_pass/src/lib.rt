@@ -1,5 +1,7 @@
 // Bytes of a fragment gone through from a reader's stage on, up to their end, an event or a fault. What is right is said
 // in `specs/Run.antt`.
+#![tactic(auto)]
+
 ghost use Rattle.std.specs.Prelude.{◌≡◌, ◌≤◌, length, take};
 ghost use Rattle.telnet_pass.specs.Run.{ran, Ran};
 

@@ -1,5 +1,7 @@
 // Reading one event at a place of a line. The caller owns the buffer; nothing is kept between calls. What is right is
 // said in the crate `telnet`; what is answered, and left in the buffer, in `specs/Promise.antt`.
+#![tactic(auto)]
+
 ghost use Rattle.std.specs.Prelude.{◌≡◌, ◌+◌, ◌-◌, ◌<◌, ◌^◌, leb, length, drop};
 ghost use Rattle.telnet.specs.Read.{after_iac, after_sb, after_verb};
 ghost use Rattle.telnet_reader.specs.Internal.Lead.{lead_in};

@@ -1,6 +1,8 @@
 // Reading one record from a place of a line on: the data of all events up to an end-of-record. The caller owns the
 // buffer; nothing is kept between calls. What is right is said in the crate `telnet`; what is answered, and left in the
 // buffer, in `specs/Promise.antt`.
+#![tactic(auto)]
+
 ghost use Rattle.std.specs.Prelude.{◌≡◌, ◌≤◌, length};
 ghost use Rattle.telnet_records.specs.Internal.Gather.{data_length, ends_record, sized_at, data_at, Advanced, CanCopy, Copied, CanPass, Passed};
 ghost use Rattle.telnet_records.specs.Promise.{record_at};

@@ -1,5 +1,7 @@
 // The stages of a reader that takes a stream by fragments: what a byte makes of one, its number, and how many payload
 // bytes it keeps. What is right is said in `specs/`.
+#![tactic(auto)]
+
 ghost use Rattle.std.specs.Prelude.{◌≡◌};
 ghost use Rattle.telnet_fragments.specs.Promise.{fault_number};
 ghost use Rattle.telnet_stage.specs.Stage.{held_count, fault_of};

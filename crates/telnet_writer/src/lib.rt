@@ -1,5 +1,7 @@
 // Writing events as the bytes of a line. What is right is said in the crate `telnet`; what is answered, and left in the
 // buffer, in `specs/Promise.antt`.
+#![tactic(auto)]
+
 ghost use Rattle.std.specs.Prelude.{◌≡◌};
 ghost use Rattle.telnet.specs.Event.{event, code, run, command, negotiation, subnegotiation};
 ghost use Rattle.telnet.specs.Write.{is_simple};

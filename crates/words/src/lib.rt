@@ -1,4 +1,6 @@
 // Words of 32 and 64 bits as the secure hashes use them. What is right is said in `specs/`, over the width.
+#![tactic(auto)]
+
 ghost use Rattle.std.specs.Prelude.{◌≡◌, [], ◌∷◌, ◌%◌, take};
 ghost use Rattle.words.specs.BigEndian.{number, bytes};
 ghost use Rattle.words.specs.Word.{rotl};

@@ -1,0 +1,315 @@
+#!/usr/bin/env python3
+"""Turns a walk of the older form, proofs/F/Proof.antt over `Tie`, into Invariants.antt and Answers.antt.
+
+usage: tools/answers.py NAMES CRATE     NAMES is the names.json of `rt check --generated DIR --old-names` in the crate's folder
+"""
+
+import json
+import os
+import re
+import sys
+
+alike = lambda s: re.sub(r"[-_']", "", s).lower()
+COMP = r"[^\s().,;{}\[\]]+"
+
+
+def chunks(text):
+    """The text's parts that begin in the first column, each with the lines that belong to it."""
+    out = []
+    for line in text.split("\n"):
+        if line and not line[0].isspace() and not (out and line[0] == ")"):
+            out.append([line])
+        elif out:
+            out[-1].append(line)
+    return ["\n".join(c).rstrip() for c in out]
+
+
+class Decl:
+    def __init__(self, name, sig):
+        self.name, self.sig, self.unfolding, self.body, self.comment = name, sig, "", [], []
+
+
+def parse(text):
+    uses, decls, comment, head = [], [], [], []
+    cur = None
+    for c in chunks(text):
+        if c.startswith("--"):
+            comment.append(c)
+            continue
+        if c.startswith("use ") or c.startswith("open "):
+            if comment and not uses:
+                head += comment
+                comment = []
+            uses.append(c)
+            continue
+        if c.startswith("unfolding"):
+            cur.unfolding = c
+            continue
+        m = re.match(r"((?:pub |abbrev |unfoldable |data |record )*)(" + COMP + r")", c)
+        name = m.group(2)
+        if cur and name == cur.name and not m.group(1):
+            cur.body.append(c)
+            continue
+        cur = Decl(name, c)
+        cur.comment = comment
+        comment = []
+        decls.append(cur)
+    return head, uses, decls
+
+
+class Names:
+    def __init__(self, d):
+        self.needs = d["needs"]
+        self.asked_at = d["asked_at"]
+        self.places = {p[0]: p for p in d["places"]}
+        self.new_place = dict(zip([p[0] for p in d["places"]], d["places_by_name"]))
+        self.loops, self.changed, self.params = d["loops"], d["changed"], d["params"]
+
+    def place(self, old):
+        for k in self.places:
+            if alike(k) == alike(old):
+                return k
+        return None
+
+    def need(self, old):
+        """The place and the new name of a need."""
+        o = re.sub(r"^overflow-(?=(add|sub|mul|shl|shr|cast|neg)\b)", "", old)
+        for k, (a, b) in enumerate(self.needs):
+            if alike(a) in (alike(o), alike(old)):
+                return k, b
+        return None
+
+
+class Bad(Exception):
+    pass
+
+
+def turn_text(text, env, names, goal, notes):
+    """A term with its chains of places resolved. env: variable -> place."""
+    env = dict(env)
+    word = re.compile(r"(?<![\w.'₀-₉-])(" + r"[A-Za-z_][\w'₀-₉-]*" + r")((?:\." + COMP + r")*)")
+
+    def resolve(v, path):
+        """(place, rest) after the chain of `before`s."""
+        place = env[v]
+        parts = [p for p in path.split(".") if p]
+        while parts and parts[0] == "before":
+            parts = parts[1:]
+            place = names.places[place][1]
+            if place is None:
+                raise Bad("before the start")
+        return place, parts
+
+    def step(place, parts):
+        p = names.places[place]
+        first = parts[0]
+        if place == "Start" or first in ("args", "requires", "ranges", "lifetimes", "well_formed", "well-formed"):
+            return "c." + ".".join(parts)
+        if alike(first) not in (alike(p[2][0]), alike(p[2][1])):
+            notes.append(f"{goal}: {first} is no step of {place} ({p[2]})")
+            return "c.FIX-" + ".".join(parts)
+        rest = parts[1:]
+        if len(rest) > 1 and rest[0] == "new" and p[3] in names.params and re.fullmatch(r"[01]", rest[1]):
+            k, i = 0, 1
+            while i < len(rest) and rest[i] == "1":
+                k, i = k + 1, i + 1
+            if i < len(rest) and rest[i] == "0":
+                i += 1
+                ps = names.params[p[3]]
+                if k < len(ps):
+                    rest = ["new", ps[k]] + rest[i:]
+        return "c." + ".".join([p[2][1]] + rest)
+
+    out, pos = [], 0
+    let = re.compile(r"let ([A-Za-z_][\w'₀-₉]*) = ([A-Za-z_][\w'₀-₉]*)((?:\." + COMP + r")*) in\s*")
+    while pos < len(text):
+        m = let.match(text, pos) if text.startswith("let ", pos) and (pos == 0 or not text[pos - 1].isalnum()) else None
+        if m and m.group(2) in env:
+            place, parts = resolve(m.group(2), m.group(3))
+            if not parts:
+                env[m.group(1)] = place
+                pos = m.end()
+                continue
+            env.pop(m.group(1), None)
+        elif text.startswith("let ", pos):
+            n = re.compile(r"let ([A-Za-z_][\w'₀-₉]*)").match(text, pos)
+            if n and n.group(1) in env:
+                pass
+        m = word.match(text, pos)
+        if m and (pos == 0 or not re.match(r"[\w.'₀-₉-]", text[pos - 1])):
+            v, path = m.group(1), m.group(2)
+            if v in env:
+                place, parts = resolve(v, path)
+                if parts:
+                    out.append(step(place, parts))
+                elif goal.startswith("helper:"):
+                    if goal == "helper:" + place:
+                        out.append("c")
+                    else:
+                        notes.append(f"{goal}: passes {place}")
+                        out.append(f"(FIX-{names.new_place[place]})")
+                else:
+                    out.append(f"(goal.at.{goal} c).{names.new_place[place]}")
+            else:
+                out.append(m.group(0))
+            pos = m.end()
+            continue
+        out.append(text[pos])
+        pos += 1
+    return "".join(out)
+
+
+def used(uses, text):
+    """The `use` lines of which the text needs something, with what it needs."""
+    words = set(re.findall(r"[^\s(){}.;,\[\]]+", text))
+    out = []
+    for u in uses:
+        m = re.match(r"use (\S+?)\.\{(.*)\}$", u, re.S)
+        if m:
+            keep = []
+            for it in [i.strip() for i in m.group(2).split(",")]:
+                name = it.split(" as ")[-1].strip()
+                if name == "[]":
+                    if "[]" in text:
+                        keep.append(it)
+                    continue
+                ops = [p for p in name.split("◌") if p]
+                if name in words or ("◌" in name and ops and all(o in words for o in ops)) or (name == "refl"):
+                    if name == "refl" and "refl" not in words:
+                        continue
+                    keep.append(it)
+            if keep:
+                out.append(f"use {m.group(1)}.{{{', '.join(keep)}}}")
+        else:
+            name = u.split(" as ")[-1].strip() if " as " in u else u.split(".")[-1]
+            if name in words or re.search(r"(?<![\w.])" + re.escape(name) + r"\.", text):
+                out.append(u)
+    return out
+
+
+def turn(crate, folder, module, d):
+    path = os.path.join(folder, "Proof.antt")
+    with open(path, encoding="utf-8") as f:
+        text = f.read()
+    head, uses, decls = parse(text)
+    names = Names(d)
+    notes = []
+    prefix = f"Rattle.{crate}.proofs.{module}"
+    uses = [u for u in uses if not re.search(r"\.(Statement\.\{statement\}|Tie as tie)$", u)]
+    inv, ans = [], []
+    imported = set()
+    for x in decls:
+        m = re.search(r":\s*tie\.(invariant|decreases)-(\S+)$", x.sig)
+        if m:
+            k = next((i for i, l in enumerate(names.loops) if alike(l[0][0]) == alike(m.group(2))), None)
+            if k is None:
+                raise Bad(f"no loop {m.group(2)}")
+            (old, new), live = names.loops[k]
+            changed = names.changed[k]
+            b = x.body[0]
+            h, body = re.match(r"(.*?)\s=\s+(.*)$", b, re.S).groups() if re.search(r"\s=\s", b) else re.match(r"(.*?)\s=\n(.*)$", b, re.S).groups()
+            args = h.split()[1:]
+            want = [f"l.initial.{v}" if c else f"l.{v}" for v, c in zip(live, changed)] + [f"l.{v}" for v, c in zip(live, changed) if c]
+            if len(args) != len(want):
+                raise Bad(f"{m.group(1)}-{m.group(2)}: {len(args)} arguments, {len(want)} wanted: {args} {want}")
+            to = dict((a, w) for a, w in zip(args, want) if a != "_")
+            body = re.sub(r"(?<![\w.'₀-₉-])([^\W\d][\w'₀-₉-]*)", lambda n: to.get(n.group(1), n.group(1)), body)
+            name = f"{m.group(1)}-{new}"
+            sep = "\n" if "\n" in body and not b.split("\n")[0].rstrip().endswith("=") is False else " "
+            lead = "\n    " if b.split("\n")[0].rstrip().endswith("=") else " "
+            inv.append("\n".join(x.comment + [f"abbrev pub {name} : goal.{name}"] + ([x.unfolding] if x.unfolding else []) + [f"{name} l ={lead}{body.strip()}"]))
+            continue
+        m = re.search(r":\s*tie\.Need-(\S+)", x.sig)
+        if m and not re.search(r"→", x.sig):
+            found = names.need(m.group(1))
+            if not found:
+                notes.append(f"no need {m.group(1)}: dropped {x.name}: {' '.join(x.body)[:200]}")
+                continue
+            k, new = found
+            place = names.asked_at[k][0]
+            if len(x.body) != 1:
+                raise Bad(f"{x.name}: {len(x.body)} clauses")
+            h, body = re.match(r"(.*?)\s=(\s+.*)$", x.body[0], re.S).groups()
+            args = h.split()[1:]
+            env = {args[0]: place} if args and args[0] != "_" else {}
+            if body.strip() == "search rules" and not x.unfolding:
+                continue
+            body = turn_text(body.strip(), env, names, new, notes)
+            lead = "\n    " if "\n" in body or len(body) > 100 else " "
+            ans.append("\n".join(x.comment + [f"pub {new} : goal.{new}"] + ([x.unfolding] if x.unfolding else []) + [f"{new} c ={lead}{body}"]))
+            continue
+        if re.match(r"tie\.close", re.sub(r"^.*?=\s*", "", " ".join(x.body), flags=re.S).strip()) or "statement M" in x.sig:
+            continue
+        # a lemma of the file's own
+        full = x.sig + "\n" + "\n".join(x.body)
+        places = re.findall(r"\((\w+) : tie\.([A-Za-z][\w-]*)[^)]*\)", x.sig)
+        places = [(v, names.place(p)) for v, p in places]
+        if "tie." in full and len(places) != 1:
+            notes.append(f"own lemma {x.name} by hand")
+        if places and places[0][1]:
+            v, p = places[0]
+            sig = re.sub(r"\((\w+) : tie\.[A-Za-z][\w-]*[^)]*\)", "@@", x.sig, count=1)
+            a, b = sig.split("@@", 1)
+            b = turn_text(b, {v: p}, names, "helper:" + p, notes)
+            sig = a + f"(c : {names.new_place[p]})" + b
+            imported.add(names.new_place[p])
+            bodies = []
+            for it in x.body:
+                h, body = re.match(r"(.*?)\s=(\s+.*)$", it, re.S).groups()
+                args = h.split()
+                env = {}
+                if len(args) > 1:
+                    env = {args[1]: p}
+                    args[1] = "c"
+                body = turn_text(body.strip(), env, names, "helper:" + p, notes)
+                bodies.append(" ".join(args) + " =\n    " + body)
+            ans.append("\n".join(x.comment + [sig] + ([x.unfolding] if x.unfolding else []) + bodies))
+        else:
+            ans.append("\n".join(x.comment + [x.sig] + ([x.unfolding] if x.unfolding else []) + x.body))
+    real = [a for a in ans if re.search(r"(?m)^pub \S+ : goal\.", a)]
+    if not real:
+        ans = []
+    head_text = "\n".join(head)
+    for name, parts, module_name in (("Invariants", inv, "Given"), ("Answers", ans, "Goals")):
+        if not parts:
+            continue
+        body = "\n\n".join(parts)
+        lines = ([head_text] if head_text and (name == "Answers" or not ans) else []) + used(uses, body)
+        lines += [f"use {prefix}.Goals.{{{', '.join(sorted(imported))}}}"] if imported and name == "Answers" else []
+        lines += [f"use {prefix}.{module_name} as goal", ""]
+        with open(os.path.join(folder, name + ".antt"), "w", encoding="utf-8") as f:
+            f.write("\n".join(lines) + "\n" + body + "\n")
+    os.remove(path)
+    if not os.listdir(folder):
+        os.rmdir(folder)
+    for n in notes:
+        print(f"{crate}/{module}: {n}")
+
+
+def main(names, crate_folder):
+    with open(names, encoding="utf-8") as f:
+        d = json.load(f)
+    crate = os.path.basename(os.path.abspath(crate_folder))
+    for key, it in sorted(d.items()):
+        m = re.match(r"Rattle-.*?-proofs\.(.*)\.Lts$", key)
+        if not m:
+            continue
+        module = m.group(1)
+        folder = os.path.join(crate_folder, "proofs", *module.split("."))
+        path = os.path.join(folder, "Proof.antt")
+        if not os.path.exists(path):
+            continue
+        text = open(path, encoding="utf-8").read()
+        if "tie.close" not in text:
+            print(f"{crate}/{module}: a walk of another form")
+            continue
+        try:
+            turn(crate, folder, module, it)
+        except Bad as e:
+            print(f"{crate}/{module}: left: {e}")
+        except Exception as e:
+            print(f"{crate}/{module}: left: {type(e).__name__} {e}")
+
+
+if __name__ == "__main__":
+    main(*sys.argv[1:3])
