@@ -3,8 +3,10 @@
 // Here is only input and output: what is printed is `signon_text::print`.
 #![tactic(auto)]
 
-use libc::{STDERR_FILENO, STDOUT_FILENO};
 use signon_text::{LIMIT, ROOM};
+
+const STDOUT_FILENO: i32 = 1;
+const STDERR_FILENO: i32 = 2;
 
 fn print(input: &[u8]) {
     let mut out = [0u8; ROOM];
@@ -14,10 +16,10 @@ fn print(input: &[u8]) {
     }
 }
 
-fn main() {
+fn main(rt: HostRuntime) {
     // One byte more than may come tells that there are too many.
     let mut buffer = [0u8; LIMIT + 1];
-    let input = show_input::read_all(&mut buffer);
+    let input = show_input::read_all(rt.stdin(), &mut buffer);
     let n = input.count;
     if input.failed {
         io::write_all(STDERR_FILENO, b"explain: cannot read standard input\n");

@@ -2,8 +2,10 @@
 // `telnet_listing::print`.
 #![tactic(auto)]
 
-use libc::{STDERR_FILENO, STDOUT_FILENO};
 use telnet_listing::{LIMIT, ROOM};
+
+const STDOUT_FILENO: i32 = 1;
+const STDERR_FILENO: i32 = 2;
 
 fn print(input: &[u8]) {
     let mut out = [0u8; ROOM];
@@ -15,10 +17,10 @@ fn print(input: &[u8]) {
     }
 }
 
-fn main() {
+fn main(rt: HostRuntime) {
     // One byte more than may come tells that there are too many.
     let mut buffer = [0u8; LIMIT + 1];
-    let input = show_input::read_all(&mut buffer);
+    let input = show_input::read_all(rt.stdin(), &mut buffer);
     let n = input.count;
     if input.failed {
         io::write_all(STDERR_FILENO, b"listing: cannot read standard input\n");

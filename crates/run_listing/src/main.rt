@@ -4,8 +4,9 @@
 
 ghost use Rattle.std.specs.Prelude.{◌≡◌, ◌≤◌, length};
 
-use libc::STDOUT_FILENO;
 use telnet_listing::ROOM;
+
+const STDOUT_FILENO: i32 = 1;
 
 // 41 FF F9, a data run of one byte and a command with a number of three digits, 21,845 times, then 41 and once more 41.
 fn bytes() -> [u8; 65537]

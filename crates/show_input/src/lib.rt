@@ -7,7 +7,7 @@ ghost use Rattle.std.specs.Prelude.{◌≡◌, ◌+◌, ◌*◌, ◌++◌, get_o
 ghost use Rattle.io.specs.Counts.{IsPrefixLen};
 ghost use Rattle.show_input.specs.Cut.{announced_in, left_after};
 
-use libc::STDIN_FILENO;
+use std::io::{Read, Stdin};
 
 // How many bytes were read, and whether a read failed. At the end of the input none are read.
 #[derive(Drop)]
@@ -16,24 +16,29 @@ pub struct Input {
     pub failed: bool,
 }
 
-fn read_some(buffer: &mut [u8]) -> Input
+fn read_some(mut stdin: Stdin, buffer: &mut [u8]) -> Input
     ensures { IsPrefixLen result.count buffer.new }
 {
-    let got = libc::read(STDIN_FILENO, buffer);
-    Input {
-        count: io::count(got, buffer),
-        failed: got < 0,
+    match stdin.read(buffer) {
+        Ok(count) => Input {
+            count,
+            failed: false,
+        },
+        Err(_) => Input {
+            count: 0,
+            failed: true,
+        },
     }
 }
 
 // Reads until the buffer is full, the input ends or a read fails. A buffer of one byte more than may come tells that
 // there are too many.
-pub fn read_all(buffer: &mut [u8]) -> Input
+pub fn read_all(stdin: Stdin, buffer: &mut [u8]) -> Input
     ensures { IsPrefixLen result.count buffer.new }
 {
     let mut n = 0;
     while n < buffer.len() {
-        let more = read_some(&mut buffer[n..]);
+        let more = read_some(stdin, &mut buffer[n..]);
         if more.count == 0 {
             return Input {
                 count: n,
