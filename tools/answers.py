@@ -64,6 +64,7 @@ class Names:
         self.places = {p[0]: p for p in d["places"]}
         self.new_place = dict(zip([p[0] for p in d["places"]], d["places_by_name"]))
         self.loops, self.changed, self.params = d["loops"], d["changed"], d["params"]
+        self.arms = dict(zip([p[0] for p in d["places"]], d["arms"]))
 
     def place(self, old):
         for k in self.places:
@@ -103,13 +104,21 @@ def turn_text(text, env, names, goal, notes):
     def step(place, parts):
         p = names.places[place]
         first = parts[0]
+        parts = [{"well-formed": "well_formed", "type-inv": "type_inv"}.get(x, x) for x in parts]
+        arm = names.arms.get(place)
+        for field, of, fields in arm[2] if arm else []:
+            if alike(of) == alike(first) and fields and parts[1 : 1 + len(fields)] == fields:
+                return "c." + ".".join([arm[0], field] + parts[1 + len(fields) :])
+        for field, of, fields in arm[2] if arm else []:
+            if alike(of) == alike(first) and not fields:
+                return "c." + ".".join([arm[0]] + {"rest": ["is"]}.get(".".join(parts[1:2]), parts[1:2]) + parts[2:])
         if place == "Start" or first in ("args", "requires", "ranges", "lifetimes", "well_formed", "well-formed"):
             return "c." + ".".join(parts)
         if alike(first) not in (alike(p[2][0]), alike(p[2][1])):
             notes.append(f"{goal}: {first} is no step of {place} ({p[2]})")
             return "c.FIX-" + ".".join(parts)
         rest = parts[1:]
-        if len(rest) > 1 and rest[0] == "new" and p[3] in names.params and re.fullmatch(r"[01]", rest[1]):
+        if len(rest) > 1 and rest[0] in ("new", "auto") and p[3] in names.params and re.fullmatch(r"[01]", rest[1]):
             k, i = 0, 1
             while i < len(rest) and rest[i] == "1":
                 k, i = k + 1, i + 1
@@ -117,7 +126,7 @@ def turn_text(text, env, names, goal, notes):
                 i += 1
                 ps = names.params[p[3]]
                 if k < len(ps):
-                    rest = ["new", ps[k]] + rest[i:]
+                    rest = [rest[0], ps[k]] + rest[i:]
         return "c." + ".".join([p[2][1]] + rest)
 
     out, pos = [], 0
@@ -157,6 +166,59 @@ def turn_text(text, env, names, goal, notes):
         out.append(text[pos])
         pos += 1
     return "".join(out)
+
+
+def argument(text, at):
+    """The end of the argument that begins at a place: a name with its fields, or what stands in parentheses."""
+    if text[at] == "(":
+        depth = 0
+        for k in range(at, len(text)):
+            depth += {"(": 1, ")": -1}.get(text[k], 0)
+            if depth == 0:
+                return k + 1
+    m = re.compile(r"[^\s()]+").match(text, at)
+    return m.end()
+
+
+def joins(text, ctors):
+    """A choice over a join of two branches, by the names of its branches."""
+    out, pos = [], 0
+    while True:
+        at = text.find("⊎_elim", pos)
+        if at < 0:
+            return "".join(out) + text[pos:]
+        ends, k = [], at + len("⊎_elim")
+        try:
+            for _ in range(3):
+                while text[k].isspace():
+                    k += 1
+                e = argument(text, k)
+                ends.append((k, e))
+                k = e
+        except (IndexError, AttributeError):
+            ends = []
+        m = re.fullmatch(r"c\.(if-\S+)\.branch", text[ends[2][0] : ends[2][1]]) if len(ends) == 3 else None
+        if not m:
+            out.append(text[pos : at + 6])
+            pos = at + 6
+            continue
+        step = m.group(1)
+        made = []
+        for (a, b), word, outcome in zip(ends, ("then", "else"), ("true", "false")):
+            it = text[a:b]
+            f = re.match(r"\(λ (\w+)\. (.*)\)$", it, re.S)
+            name = step.replace("if-", word + "-", 1)
+            ctors.add(name)
+            if f:
+                w, body = f.groups()
+                body = re.sub(r"(?<![\w.])" + w + r"\.0\.(taken|left)\b", f"{w}.{step}.{outcome}", body)
+                body = re.sub(r"omega \(arith, " + w + r"\.1\)", "omega arith", body)
+                body = re.sub(r"omega \(arith, " + w + r"\.1, ", "omega (arith, ", body)
+                made.append(f"{name} {w} ↦ {joins(body, ctors).strip()}")
+            else:
+                made.append(f"{name} w ↦ {it} w")
+        out.append(text[pos:at] + f"elim c.{step}.branch [ " + " | ".join(made) + " ]")
+        pos = ends[2][1]
 
 
 def used(uses, text):
@@ -234,7 +296,7 @@ def turn(crate, folder, module, d):
             env = {args[0]: place} if args and args[0] != "_" else {}
             if body.strip() == "search rules" and not x.unfolding:
                 continue
-            body = turn_text(body.strip(), env, names, new, notes)
+            body = joins(turn_text(body.strip(), env, names, new, notes), imported)
             lead = "\n    " if "\n" in body or len(body) > 100 else " "
             ans.append("\n".join(x.comment + [f"pub {new} : goal.{new}"] + ([x.unfolding] if x.unfolding else []) + [f"{new} c ={lead}{body}"]))
             continue
@@ -266,6 +328,20 @@ def turn(crate, folder, module, d):
             ans.append("\n".join(x.comment + [sig] + ([x.unfolding] if x.unfolding else []) + bodies))
         else:
             ans.append("\n".join(x.comment + [x.sig] + ([x.unfolding] if x.unfolding else []) + x.body))
+    bodies = "\n".join(inv)
+    for x in decls:
+        if re.search(r"tie\.|statement M", x.sig) or not re.search(r"(?<![\w.'-])" + re.escape(x.name) + r"(?![\w'-])", bodies):
+            continue
+        text_of = "\n".join(x.comment + [x.sig] + ([x.unfolding] if x.unfolding else []) + x.body)
+        if text_of in ans:
+            ans.remove(text_of)
+        sig = x.sig
+        if not re.search(r"\bpub\b", sig.split(":")[0]):
+            m2 = re.match(r"((?:abbrev |unfoldable )*)(.*)$", sig, re.S)
+            sig = m2.group(1) + "pub " + m2.group(2)
+        inv.insert(0, "\n".join(x.comment + [sig] + ([x.unfolding] if x.unfolding else []) + x.body))
+        uses.append(f"use {prefix}.Invariants.{{{x.name}}}")
+        bodies += text_of
     real = [a for a in ans if re.search(r"(?m)^pub \S+ : goal\.", a)]
     if not real:
         ans = []
@@ -274,7 +350,7 @@ def turn(crate, folder, module, d):
         if not parts:
             continue
         body = "\n\n".join(parts)
-        lines = ([head_text] if head_text and (name == "Answers" or not ans) else []) + used(uses, body)
+        lines = ([head_text] if head_text and (name == "Answers" or not ans) else []) + [u for u in used(uses, body) if name == "Answers" or f"{prefix}.Invariants." not in u]
         lines += [f"use {prefix}.Goals.{{{', '.join(sorted(imported))}}}"] if imported and name == "Answers" else []
         lines += [f"use {prefix}.{module_name} as goal", ""]
         with open(os.path.join(folder, name + ".antt"), "w", encoding="utf-8") as f:

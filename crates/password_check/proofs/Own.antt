@@ -21,7 +21,7 @@ use Rattle.names.specs.Ebcdic.{ebcdic_of}
 use Rattle.des.specs.Cipher.{output}
 use Rattle.des.specs.Tables.{IP⁻¹}
 use Rattle.des.proofs.Sizes.{permuted-lt}
-use Rattle.sha1.proofs.Digest.{length-sha1}
+use Rattle.sha1_hash.proofs.Digest.{length-sha1}
 use Rattle.password_des.specs.Des as Des
 use Rattle.password_sha.specs.Sha as Sha
 use Rattle.password_check.specs.Gives.{seed_length, des_length, sha_length, are_seeds, gives_clear, gives_des, gives_sha}

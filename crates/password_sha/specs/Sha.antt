@@ -6,7 +6,7 @@ use Rattle.names.specs.Name.{raised}
 use Rattle.names.specs.Padding.{filled}
 use Rattle.names.specs.Range.{in_range, every}
 use Rattle.password_des.specs.Des.{PWSEQs}
-use Rattle.sha1.specs.Sha1.{sha1}
+use Rattle.sha1_hash.specs.Sha1.{sha1}
 
 -- a text in UNICODE, two bytes to a character, of which the high one is 0
 unfoldable pub unicode : List ℕ → List ℕ

@@ -8,7 +8,7 @@ ghost use Rattle.words.specs.BigEndian.{bytes};
 ghost use Rattle.names.specs.Name.{raised, is_name, profile_limit};
 ghost use Rattle.names.specs.Padding.{filled};
 ghost use Rattle.names.specs.Range.{every};
-ghost use Rattle.sha1.specs.Sha1.{sha1};
+ghost use Rattle.sha1_hash.specs.Sha1.{sha1};
 ghost use Rattle.password_sha.specs.Sha.{unicode, is_printable, is_password, PW-token, substitute_text};
 ghost use Rattle.password_sha.specs.Answer.{hash, no_hash, sha_token, sha_substitute};
 

@@ -11,7 +11,7 @@ use Rattle.words.specs.BigEndian.{bytes}
 use Rattle.words.proofs.BigEndian.{length-bytes}
 use Rattle.names.specs.Name.{raised, is_name, is_raised_name, profile_limit}
 use Rattle.names.proofs.Held.{length-raised, raised-is-raised, raised-within}
-use Rattle.sha1.proofs.Digest.{length-sha1}
+use Rattle.sha1_hash.proofs.Digest.{length-sha1}
 use Rattle.password_sha.specs.Sha.{PW-token}
 use Rattle.profile.specs.Profile.{shape_of, flags_byte, token_bytes, sum_of, body_of, record_bytes}
 use Rattle.profile.specs.Table.{table_version}

@@ -73,14 +73,14 @@ fn say_read(input: Input) {
     say(b" bytes read\n");
 }
 
-fn main() {
+fn main(rt: HostRuntime) {
     let mut first = [0u8; 16];
-    say_read(show_input::read_all(&mut first));
+    say_read(show_input::read_all(rt.stdin(), &mut first));
     say(&first);
     let mut text = [0u8; 4096];
-    let input = show_input::read_all(&mut text);
+    let input = show_input::read_all(rt.stdin(), &mut text);
     let n = input.count;
     say_read(input);
     run(&text[..n]);
-    say_read(show_input::read_all(&mut first));
+    say_read(show_input::read_all(rt.stdin(), &mut first));
 }

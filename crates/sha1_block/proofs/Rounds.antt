@@ -1,6 +1,6 @@
 -- The rounds by twenties: what holds in each, and what is between two rounds. Assumes nothing.
 use Rattle.std.proofs.Common.{◌≡◌, ℕ, zero, suc, ◌+◌, ◌*◌, ◌<◌, ◌≤◌, List, [], ◌∷◌, ◌++◌, length, take, set, sym, refl, ap, ◌∙◌, append-nil, add-zero, zero-add, add-one, arith, length-take-le, take-suc-set, le-ltb, lt-ltb}
-use Rattle.sha1.specs.Sha1.{Five, by_round, extended, schedule, round, rounds}
+use Rattle.sha1_hash.specs.Sha1.{Five, by_round, extended, schedule, round, rounds}
 use Rattle.sha1_block.specs.Internal.Between.{planned, Rounded}
 use Rattle.sha1_block.proofs.Schedule.{none_left}
 

@@ -6,7 +6,7 @@ use lib.Seq.{append_snoc}
 use Rattle.words.specs.BigEndian.{number}
 use Rattle.words.specs.Blocks.{words_of}
 use Rattle.words.proofs.Blocks.{cut_short, words_step}
-use Rattle.sha1.specs.Sha1.{ROTL, back, next, extended}
+use Rattle.sha1_hash.specs.Sha1.{ROTL, back, next, extended}
 use Rattle.sha1_block.specs.Internal.Between.{planned}
 
 -- the word i back from t, of an array whose first t words are there

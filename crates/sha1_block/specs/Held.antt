@@ -1,6 +1,6 @@
 -- How the code holds a hash value.
 use Rattle.sha1_block.specs.declared.Words.{Words}
-use Rattle.sha1.specs.Sha1.{Five}
+use Rattle.sha1_hash.specs.Sha1.{Five}
 
 -- the five words
 abbrev pub five : Words → Five

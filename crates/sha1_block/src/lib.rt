@@ -4,7 +4,7 @@
 ghost use Rattle.std.specs.Prelude.{◌≡◌, ◌+◌, ◌*◌, ◌<◌, ◌≤◌, [], ◌∷◌, ◌++◌, length, take, drop};
 ghost use Rattle.words.specs.BigEndian.{number};
 ghost use Rattle.words.specs.Blocks.{cut};
-ghost use Rattle.sha1.specs.Sha1.{◌⊞◌, f, K, next, schedule, round, rounds, compressed, hashed};
+ghost use Rattle.sha1_hash.specs.Sha1.{◌⊞◌, f, K, next, schedule, round, rounds, compressed, hashed};
 ghost use Rattle.sha1_block.specs.Held.{five};
 ghost use Rattle.sha1_block.specs.Internal.Between.{planned, Carried};
 

@@ -12,8 +12,8 @@ use Rattle.words.specs.Internal.Tail.{tail}
 use Rattle.words.proofs.BigEndian.{bytes-mod}
 use Rattle.words.proofs.Blocks.{cut-append}
 use Rattle.words.proofs.Tail.{tail-is}
-use Rattle.sha1.specs.Sha1.{H⁰, hashed, digest_of, sha1}
-use Rattle.sha1.proofs.Chain.{hashed-append}
+use Rattle.sha1_hash.specs.Sha1.{H⁰, hashed, digest_of, sha1}
+use Rattle.sha1_hash.proofs.Chain.{hashed-append}
 
 -- the length that the code writes
 pub bits_of : (n : ℕ) → bytes 8 (n * 8 % 2 ^ 64) ≡ bytes 8 (8 * n)

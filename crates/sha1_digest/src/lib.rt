@@ -6,7 +6,7 @@ mod padding;
 ghost use Rattle.std.specs.Prelude.{◌≡◌, ◌≤◌, length};
 ghost use Rattle.octets.specs.Lent.{overwrite};
 ghost use Rattle.words.specs.BigEndian.{bytes};
-ghost use Rattle.sha1.specs.Sha1.{H⁰, digest_of, sha1};
+ghost use Rattle.sha1_hash.specs.Sha1.{H⁰, digest_of, sha1};
 ghost use Rattle.sha1_block.specs.Held.{five};
 
 use sha1_block::Words;

@@ -1,7 +1,7 @@
 -- `password_sha::sha_substitute` meets its contract. Assumes nothing.
 use mathlib.Core.Path.{sym, ap, ◌∙◌}
 use borrow.Author.Tests.{not-false}
-use Rattle.sha1.specs.Sha1.{sha1}
+use Rattle.sha1_hash.specs.Sha1.{sha1}
 use Rattle.password_sha.specs.Sha.{PW-SUB}
 use Rattle.password_sha.specs.Answer.{hash, sha_substitute}
 use borrow.Author.Rules.{rules}

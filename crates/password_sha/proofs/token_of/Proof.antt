@@ -3,7 +3,7 @@ use mathlib.Core.Path.{ap, ◌∙◌}
 use Prim.Native.Nat.{◌+◌, ◌-◌, ◌*◌}
 use lib.ListN.{length, take, replicate}
 use Rattle.octets.specs.Lent.{overwrite}
-use Rattle.sha1.specs.Sha1.{sha1}
+use Rattle.sha1_hash.specs.Sha1.{sha1}
 use Rattle.password_sha.specs.Sha.{unicode, PW-token}
 use Rattle.password_sha.specs.Answer.{hash}
 use Rattle.password_sha.proofs.Messages.{token-text}

@@ -2,9 +2,9 @@
 -- `length blocks - at`. Assumes nothing.
 use Rattle.std.proofs.Common.{◌≡◌, ◌+◌, ◌-◌, ◌≤◌, length, drop, sym, refl, ◌∙◌, arith, length-drop, rules}
 use Rattle.words.specs.Blocks.{cut}
-use Rattle.sha1.specs.Sha1.{hashed}
+use Rattle.sha1_hash.specs.Sha1.{hashed}
 use Rattle.sha1_block.specs.Held.{five}
-use Rattle.sha1.proofs.Chain.{hashed-more, hashed-none}
+use Rattle.sha1_hash.proofs.Chain.{hashed-more, hashed-none}
 use Rattle.sha1_block.proofs.absorb.Statement.{statement}
 use Rattle.sha1_block.proofs.absorb.Tie as tie
 

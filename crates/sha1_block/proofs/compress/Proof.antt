@@ -1,5 +1,5 @@
 -- `sha1_block::compress` meets its contract: the eighty rounds, and the sums. Assumes nothing.
-use Rattle.sha1.specs.Sha1.{added, compressed}
+use Rattle.sha1_hash.specs.Sha1.{added, compressed}
 use Rattle.std.proofs.Common.{rules}
 use Rattle.sha1_block.proofs.compress.Statement.{statement}
 use Rattle.sha1_block.proofs.compress.Tie as tie

@@ -1,5 +1,5 @@
 -- `sha1_block::step` meets its contract: the calls are the round's own terms. Assumes nothing.
-use Rattle.sha1.specs.Sha1.{round}
+use Rattle.sha1_hash.specs.Sha1.{round}
 use Rattle.std.proofs.Common.{rules}
 use Rattle.sha1_block.proofs.step.Statement.{statement}
 use Rattle.sha1_block.proofs.step.Tie as tie

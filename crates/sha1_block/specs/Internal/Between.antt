@@ -1,7 +1,7 @@
 -- What the code has between two rounds.
 use Rattle.std.specs.Prelude.{◌≡◌, ℕ, ◌-◌, ◌*◌, List, ◌++◌, length, take, drop}
 use Rattle.words.specs.Blocks.{words_of}
-use Rattle.sha1.specs.Sha1.{Five, extended, schedule, rounds}
+use Rattle.sha1_hash.specs.Sha1.{Five, extended, schedule, rounds}
 
 -- the words that t words, the block's others and those made of them are
 abbrev pub planned : List ℕ → ℕ → List ℕ → List ℕ

@@ -4,7 +4,7 @@ use Prim.Native.Nat.{◌-◌, ◌*◌, ◌/◌}
 use native.Mathlib.Omega.{arith}
 use lib.ListN.{length, take, length-drop}
 use lib.Seq.{take_all, length-take-le}
-use Rattle.sha1.specs.Sha1.{digest_of}
+use Rattle.sha1_hash.specs.Sha1.{digest_of}
 use Rattle.words.specs.Internal.Tail.{end, tail}
 use Rattle.sha1_digest.proofs.Last.{left, by-tail}
 use borrow.Author.Rules.{rules}

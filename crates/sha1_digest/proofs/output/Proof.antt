@@ -1,7 +1,7 @@
 -- `sha1_digest::output` meets its contract: the five words fill the digest. Assumes nothing.
 use Rattle.octets.specs.Lent.{overwrite}
 use Rattle.words.specs.BigEndian.{bytes}
-use Rattle.sha1.specs.Sha1.{digest_of}
+use Rattle.sha1_hash.specs.Sha1.{digest_of}
 use borrow.Author.Rules.{rules}
 use Rattle.sha1_digest.proofs.output.Statement.{statement}
 use Rattle.sha1_digest.proofs.output.Tie as tie

@@ -1,0 +1,30 @@
+-- `octets_marked::eight_plain` meets its contract. The loop's invariant: where none was found in the range, the first j
+-- bytes have no mark. The measure is `8 - j`. Assumes nothing.
+use mathlib.Core.Path.{◌≡◌, sym, ◌∙◌}
+use mathlib.Core.Bool.{true, false}
+use mathlib.Core.Logic.{⊎_elim}
+use Prim.Native.Nat.{ℕ}
+use native.Mathlib.Nat.{add-zero}
+use native.Mathlib.Omega.{arith}
+use Rattle.octets_marked.proofs.Turn.{plain_more}
+use Rattle.octets_marked.proofs.eight_plain.Goals as goal
+
+pub loop-j-init : goal.loop-j-init
+loop-j-init c = (omega arith, λ e mark. rw add-zero)
+
+pub loop-j-preserved : goal.loop-j-preserved
+loop-j-preserved c =
+    let l = c.loop-j in
+    let a = c.args in
+    let s = a.bytes.now in (
+      omega arith,
+      λ e mark. ⊎_elim (λ w. let z : true ≡ false = sym e ∙ w.1 in absurd (let d : ◌≡◌ {A = ℕ} 0 1 = cc in omega arith))
+          (λ w. plain_more mark a.low a.high s a.at l.j (omega arith) (sym c.lies.ensures ∙ w.0.left)
+          (l.invariant.1 (sym w.1 ∙ e) mark)) c.if-lies.branch,
+    )
+
+pub returns : goal.returns
+returns c =
+    let l = c.loop-j in
+    let e : l.j ≡ 8 = omega arith in
+    rw e at l.invariant.1

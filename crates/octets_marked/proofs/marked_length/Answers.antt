@@ -1,0 +1,40 @@
+-- `octets_marked::marked_length` meets its contract. The loop's invariant: the marks so far, the bytes so far and what
+-- is left to count are the whole, and there are no more marks than bytes. The measure is how many bytes are left.
+-- Assumes nothing.
+use mathlib.Core.Path.{ap, sym, ◌∙◌}
+use mathlib.Core.Logic.{⊎_elim}
+use native.Mathlib.Omega.{arith}
+use lib.ListN.{length, get_or}
+use Rattle.octets_marked.proofs.Marked.{marked-pair, marked-one, length-marked-at, marked-end}
+use Rattle.octets_marked.proofs.marked_length.Goals as goal
+
+pub loop-i-init : goal.loop-i-init
+loop-i-init c = (omega arith, omega arith, λ mark. omega arith)
+
+pub loop-i-preserved : goal.loop-i-preserved
+loop-i-preserved c =
+    let l = c.loop-i in
+    let a = c.args in
+    let s = a.bytes.now in
+    let b = get_or s l.i 0 in
+    let is = sym c.lies.ensures in
+    ⊎_elim (λ w. (
+      omega (arith, w.1),
+      omega arith,
+      λ mark.
+          omega (arith, w.1, length-marked-at mark a.low a.high s l.i (omega arith), ap length (marked-pair mark a.low a.high b (is ∙ w.0.taken)), l.invariant.2 mark),
+    ))
+    (λ w. (
+      omega (arith, w.1),
+      omega arith,
+      λ mark.
+          omega (arith, w.1, length-marked-at mark a.low a.high s l.i (omega arith), ap length (marked-one mark a.low a.high b (is ∙ w.0.left)), l.invariant.2 mark),
+    ))
+    c.if-lies.branch
+
+pub returns : goal.returns
+returns c =
+    λ mark.
+    let a = c.args in
+    let l = c.loop-i in
+    omega (arith, ap length (marked-end mark a.low a.high a.bytes.now l.i c.loop-i-test.false), l.invariant.2 mark)

@@ -1,0 +1,56 @@
+-- `show::put_hex` meets its contract. The loop's invariant: to put the digits from byte `i` on at `end` gives the
+-- buffer with all of them. The measure is how many bytes are left. Assumes nothing.
+use mathlib.Core.Path.{refl, sym, ap, ◌∙◌}
+use Prim.Native.Nat.{◌+◌, ◌*◌, ◌≤◌, ◌<◌}
+use native.Mathlib.Omega.{arith}
+use borrow.Author.Tests.{ltb-true, ltb-false}
+use lib.ListN.{length, get_or, drop, length-drop}
+use Rattle.octets.specs.Lent.{overwrite}
+use Rattle.octets.proofs.Overwrite.{length-overwrite}
+use Rattle.show.specs.Hex.{hex_pair, hex_text}
+use Rattle.show.proofs.Digits.{length-text, text-next, text-none}
+use Rattle.show.proofs.Placing.{placed-refused, placed-all, one_more}
+use Rattle.show.proofs.put_hex.Goals as goal
+
+pub returns-then-out-bytes : goal.returns-then-out-bytes
+returns-then-out-bytes c =
+    let s = c.args in
+    sym (placed-refused (hex_text s.bytes.now) s.out.now s.at (omega (arith, length-text s.bytes.now)))
+
+pub returns-then-no_room : goal.returns-then-no_room
+returns-then-no_room c =
+    let s = c.args in
+    let b = s.out.now in
+    let full = ltb-true (length b) (s.at + 2 * length s.bytes.now) (sym c.no_room.ensures ∙ c.if-no_room.true) in
+    sym (placed-refused (hex_text s.bytes.now) b s.at (omega (arith, length-text s.bytes.now)))
+
+pub loop-i-init : goal.loop-i-init
+loop-i-init c =
+    let s = c.args in
+    let room = ltb-false (length s.out.now) (s.at + 2 * length s.bytes.now) (sym c.no_room.ensures ∙ c.if-no_room.false) in
+    (omega arith, omega arith, room, refl, refl)
+
+pub loop-i-preserved : goal.loop-i-preserved
+loop-i-preserved c =
+    let s = c.args in
+    let x = s.bytes.now in
+    let i = c.loop-i.i in
+    let e = c.put_pair.ensures in
+    let h : i < length x = omega arith in
+    let room : c.loop-i.end + length (hex_text (drop i x)) ≤ length c.loop-i.out = rw (length-text, length-drop) (omega arith) in
+    let fit : c.loop-i.end + 2 ≤ length c.loop-i.out = omega arith in
+    let more = one_more c.loop-i.out c.loop-i.end (hex_pair (get_or x i 0)) (hex_text (drop (i + 1) x)) (text-next x i h) room in (
+      omega arith,
+      omega arith,
+      omega arith,
+      ap length e ∙ length-overwrite c.loop-i.out c.loop-i.end (hex_pair (get_or x i 0)) fit ∙ c.loop-i.invariant.3,
+      ap (λ o. overwrite o (c.loop-i.end + 2) (hex_text (drop (i + 1) x))) e ∙ more ∙ c.loop-i.invariant.4,
+    )
+
+pub returns : goal.returns
+returns c =
+    let l = c.loop-i in
+    let s = c.args in
+    let x = s.bytes.now in
+    let long = length-text x in
+    placed-all (hex_text x) s.out.now s.at (omega arith) (omega arith) (text-none x l.i (omega arith)) l.invariant.4
