@@ -101,6 +101,18 @@ def turn_text(text, env, names, goal, notes):
                 raise Bad("before the start")
         return place, parts
 
+    def parameters(callee, rest):
+        """What a call left, by the parameter's name in place of its position."""
+        if len(rest) > 1 and rest[0] in ("new", "auto") and callee in names.params and re.fullmatch(r"[01]", rest[1]):
+            k, i = 0, 1
+            while i < len(rest) and rest[i] == "1":
+                k, i = k + 1, i + 1
+            if i < len(rest) and rest[i] == "0" and k < len(names.params[callee]):
+                return [rest[0], names.params[callee][k]] + rest[i + 1 :]
+        return rest
+
+    calls = {}
+
     def step(place, parts):
         p = names.places[place]
         first = parts[0]
@@ -111,23 +123,16 @@ def turn_text(text, env, names, goal, notes):
                 return "c." + ".".join([arm[0], field] + parts[1 + len(fields) :])
         for field, of, fields in arm[2] if arm else []:
             if alike(of) == alike(first) and not fields:
-                return "c." + ".".join([arm[0]] + {"rest": ["is"]}.get(".".join(parts[1:2]), parts[1:2]) + parts[2:])
+                return "c." + ".".join([arm[0], field] + parts[1:])
         if place == "Start" or first in ("args", "requires", "ranges", "lifetimes", "well_formed", "well-formed"):
             return "c." + ".".join(parts)
-        if alike(first) not in (alike(p[2][0]), alike(p[2][1])):
+        if alike(first) not in (alike(p[2][0]), alike(p[2][1])) and alike(re.sub(r"_lem$", "", first)) != alike(p[2][0]):
             notes.append(f"{goal}: {first} is no step of {place} ({p[2]})")
             return "c.FIX-" + ".".join(parts)
-        rest = parts[1:]
-        if len(rest) > 1 and rest[0] in ("new", "auto") and p[3] in names.params and re.fullmatch(r"[01]", rest[1]):
-            k, i = 0, 1
-            while i < len(rest) and rest[i] == "1":
-                k, i = k + 1, i + 1
-            if i < len(rest) and rest[i] == "0":
-                i += 1
-                ps = names.params[p[3]]
-                if k < len(ps):
-                    rest = [rest[0], ps[k]] + rest[i:]
-        return "c." + ".".join([p[2][1]] + rest)
+        path = "c." + ".".join([p[2][1]] + parameters(p[3], parts[1:]))
+        if re.match(r"(if|loop\S*)-not-", p[2][1]) and parts[1:] in (["true"], ["false"]):
+            return "NOT " + path
+        return path
 
     out, pos = [], 0
     let = re.compile(r"let ([A-Za-z_][\w'₀-₉]*) = ([A-Za-z_][\w'₀-₉]*)((?:\." + COMP + r")*) in\s*")
@@ -139,6 +144,8 @@ def turn_text(text, env, names, goal, notes):
                 env[m.group(1)] = place
                 pos = m.end()
                 continue
+            if len(parts) == 1 and names.places[place][3]:
+                calls[m.group(1)] = names.places[place][3]
             env.pop(m.group(1), None)
         elif text.startswith("let ", pos):
             n = re.compile(r"let ([A-Za-z_][\w'₀-₉]*)").match(text, pos)
@@ -159,13 +166,16 @@ def turn_text(text, env, names, goal, notes):
                         out.append(f"(FIX-{names.new_place[place]})")
                 else:
                     out.append(f"(goal.at.{goal} c).{names.new_place[place]}")
+            elif v in calls:
+                out.append(".".join([v] + parameters(calls[v], [x for x in path.split(".") if x])))
             else:
                 out.append(m.group(0))
             pos = m.end()
             continue
         out.append(text[pos])
         pos += 1
-    return "".join(out)
+    text = re.sub(r"\(?not[-_](?:true|false) \S+ NOT (c\.[^\s(),]+)", lambda m: m.group(1) if not m.group(0).startswith("(") else "(" + m.group(1), "".join(out))
+    return re.sub(r"NOT (c\.[^\s(),]+)", r"(ap not \1)", text)
 
 
 def argument(text, at):
@@ -176,7 +186,7 @@ def argument(text, at):
             depth += {"(": 1, ")": -1}.get(text[k], 0)
             if depth == 0:
                 return k + 1
-    m = re.compile(r"[^\s()]+").match(text, at)
+    m = re.compile(r"[^\s(),;\]]+").match(text, at)
     return m.end()
 
 
@@ -350,6 +360,8 @@ def turn(crate, folder, module, d):
         if not parts:
             continue
         body = "\n\n".join(parts)
+        if "ap not c." in body:
+            uses = uses + ["use mathlib.Core.Path.{ap}"] * (not any(re.search(r"[{ ]ap[,}]", u) for u in uses)) + ["use mathlib.Core.Bool.{not}"] * (not any(re.search(r"[{ ]not[,}]", u) for u in uses))
         lines = ([head_text] if head_text and (name == "Answers" or not ans) else []) + [u for u in used(uses, body) if name == "Answers" or f"{prefix}.Invariants." not in u]
         lines += [f"use {prefix}.Goals.{{{', '.join(sorted(imported))}}}"] if imported and name == "Answers" else []
         lines += [f"use {prefix}.{module_name} as goal", ""]

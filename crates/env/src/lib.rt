@@ -19,7 +19,7 @@ pub const ESC: u8 = 2;
 pub const USERVAR: u8 = 3;
 
 // A variable record: VAR or USERVAR, where its name and its value are in a buffer, and the mark of its value.
-#[derive(Drop)]
+#[derive(Clone, Copy)]
 pub struct VariableRecord {
     pub kind: usize,
     pub name_at: usize,

@@ -12,7 +12,7 @@ use refusal::{NO_ROOM, REPEATED_VARIABLE};
 
 // A payload that was read: its first byte, the number of its variables, and of the bytes that their names and values
 // take; or the number by which it is refused.
-#[derive(Drop)]
+#[derive(Clone, Copy)]
 pub enum Answer {
     Read(u8, usize, usize),
     Refused(u8),

@@ -11,7 +11,7 @@ use env::{DEFINED, RECORD_WIDTH, VariableRecord};
 use env_records::record_at;
 
 // The place of a value in a buffer, and its length.
-#[derive(Drop)]
+#[derive(Clone, Copy)]
 pub enum ValuePlace {
     Absent,
     At(usize, usize),

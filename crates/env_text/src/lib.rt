@@ -10,7 +10,7 @@ use env::{ESC, USERVAR};
 use octets::no_room;
 
 // A name or a value in a payload: whether it is whole, its length without ESCs, and the place after it.
-#[derive(Drop)]
+#[derive(Clone, Copy)]
 pub struct Text {
     pub whole: bool,
     pub length: usize,
@@ -18,7 +18,7 @@ pub struct Text {
 }
 
 // How far a text goes: its length without ESCs, and the place after it.
-#[derive(Drop)]
+#[derive(Clone, Copy)]
 pub struct Extent {
     pub length: usize,
     pub end: usize,

@@ -26,7 +26,7 @@ use refusal::{BAD_ESCAPE, NO_VARIABLE, PAYLOAD_TOO_LONG, TOO_MANY_VARIABLES, VAL
 
 // How far the variables of a payload have been read: how many they are and the bytes that they take; or the number of a
 // fault.
-#[derive(Drop)]
+#[derive(Clone, Copy)]
 pub enum Found {
     Variables(usize, usize),
     Fault(u8),

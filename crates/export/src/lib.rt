@@ -12,7 +12,7 @@ use telnet::{DO, DONT, Kind, Verb, WILL, WONT};
 
 // The kind of an event. `what` is 1 for data, 2 for a command, 3 for a negotiation, 4 for a subnegotiation. `code` is
 // the command, or 251 to 254 for WILL, WONT, DO and DONT. `option` is the option byte. What a kind does not have is 0.
-#[derive(Drop)]
+#[derive(Clone, Copy)]
 pub struct KindNumbers {
     pub what: u8,
     pub code: u8,
@@ -21,21 +21,21 @@ pub struct KindNumbers {
 
 // How many bytes were written to the front of a buffer. `refusal` is 0, or the number of a refusal with `length` 0.
 #[repr(C)]
-#[derive(Drop)]
+#[derive(Clone, Copy)]
 pub struct TvWritten {
     pub refusal: u8,
     pub length: usize,
 }
 
 // The option command that a number names, if it names one.
-#[derive(Drop)]
+#[derive(Clone, Copy)]
 pub enum NamedVerb {
     Nothing,
     Verb(Verb),
 }
 
 // The kind of an event that three numbers name, if they name one.
-#[derive(Drop)]
+#[derive(Clone, Copy)]
 pub enum NamedKind {
     Nothing,
     Kind(Kind),

@@ -20,7 +20,7 @@ use export::TvWritten;
 // A payload that was read: its first byte (0 IS, 2 INFO), how many variables it has, and how many bytes their names and
 // values take.
 #[repr(C)]
-#[derive(Drop)]
+#[derive(Clone, Copy)]
 pub struct TvPayload {
     pub refusal: u8,
     pub first: u8,
@@ -30,7 +30,7 @@ pub struct TvPayload {
 
 // The place of a value in a buffer. `present` is 1, or 0 with the others 0, for an undefined variable too.
 #[repr(C)]
-#[derive(Drop)]
+#[derive(Clone, Copy)]
 pub struct TvValue {
     pub present: u8,
     pub at: usize,

@@ -19,7 +19,7 @@ use option_verbs::{Outgoing, Whose};
 // The two sides of one option, each by its state: 0 off, 1 on, 2 want off, 3 want off then on, 4 want on, 5 want on
 // then off. A number above 5 reads as off.
 #[repr(C)]
-#[derive(Drop)]
+#[derive(Clone, Copy)]
 pub struct TvPair {
     pub ours: u8,
     pub other: u8,
@@ -27,7 +27,7 @@ pub struct TvPair {
 
 // The ten sides of a session, by option: 0, 3, 24, 25 and 39.
 #[repr(C)]
-#[derive(Drop)]
+#[derive(Clone, Copy)]
 pub struct TvSides {
     pub binary: TvPair,
     pub suppress_go_ahead: TvPair,
@@ -40,7 +40,7 @@ pub struct TvSides {
 // sent, with its `code` (251 to 254 for WILL, WONT, DO and DONT) and its `option`; else the three are 0. A refusal
 // hands back the sides by the numbers that were given.
 #[repr(C)]
-#[derive(Drop)]
+#[derive(Clone, Copy)]
 pub struct TvAnswered {
     pub sides: TvSides,
     pub number: u8,
@@ -52,7 +52,7 @@ pub struct TvAnswered {
 // The sides after a step whose command went on a line, `number` as above, and the place after what was put there. A
 // refusal hands back sides and place as they were given.
 #[repr(C)]
-#[derive(Drop)]
+#[derive(Clone, Copy)]
 pub struct TvSent {
     pub sides: TvSides,
     pub number: u8,

@@ -15,7 +15,7 @@ use password_des::Block;
 
 // A token or a substitute of DES.
 #[repr(C)]
-#[derive(Drop)]
+#[derive(Clone, Copy)]
 pub struct TvBlock {
     pub refusal: u8,
     pub value: u64,

@@ -20,7 +20,7 @@ use print_ledger::{Completed, Completion, Ledger, Receipt, Taken};
 // 1 for print or print complete and 2 for clear. The six marks are 1 or 0. Diagnostic bytes and print data are given by
 // their places in the frame.
 #[repr(C)]
-#[derive(Drop)]
+#[derive(Clone, Copy)]
 pub struct TvFrame {
     pub refusal: u8,
     pub direction: u8,
@@ -39,7 +39,7 @@ pub struct TvFrame {
 
 // The ledger: `held` is 1 where a record is held and 0 where none is. Another number reads as 0.
 #[repr(C)]
-#[derive(Drop)]
+#[derive(Clone, Copy)]
 pub struct TvLedger {
     pub held: u8,
 }
@@ -47,7 +47,7 @@ pub struct TvLedger {
 // The ledger after a frame, and what became of the frame: `receipt` is 1 where its record is held, 2 where a clear
 // found a record held, 3 where it found none.
 #[repr(C)]
-#[derive(Drop)]
+#[derive(Clone, Copy)]
 pub struct TvTaken {
     pub ledger: TvLedger,
     pub refusal: u8,
@@ -56,7 +56,7 @@ pub struct TvTaken {
 
 // The ledger after a completion, and how many bytes were written.
 #[repr(C)]
-#[derive(Drop)]
+#[derive(Clone, Copy)]
 pub struct TvCompleted {
     pub ledger: TvLedger,
     pub refusal: u8,

@@ -18,7 +18,7 @@ use profile_table::{Found, TableCheck};
 
 // How many profiles a table has.
 #[repr(C)]
-#[derive(Drop)]
+#[derive(Clone, Copy)]
 pub struct TvTable {
     pub refusal: u8,
     pub profiles: usize,
@@ -27,7 +27,7 @@ pub struct TvTable {
 // The profile of a name. `present` is 1, with its two marks, 1 or 0, and the place of its record in the table; or 0
 // where the table has none, with the others 0.
 #[repr(C)]
-#[derive(Drop)]
+#[derive(Clone, Copy)]
 pub struct TvFound {
     pub refusal: u8,
     pub present: u8,

@@ -18,7 +18,7 @@ use telnet_fragments::{Closed, Fault, Reader, Stage, Taken};
 // the fault's number at 6, else 0. `count` is how many bytes of the array are payload, at 4 and 5, else 0. Numbers that
 // name no stage read as stage 0.
 #[repr(C)]
-#[derive(Drop)]
+#[derive(Clone, Copy)]
 pub struct TvReader {
     pub stage: u8,
     pub code: u8,
@@ -30,7 +30,7 @@ pub struct TvReader {
 // `tv_look` has them; how many bytes of the fragment were taken; how many bytes of data are at the front of the room;
 // and how many payload bytes are right after them.
 #[repr(C)]
-#[derive(Drop)]
+#[derive(Clone, Copy)]
 pub struct TvFed {
     pub reader: TvReader,
     pub number: u8,

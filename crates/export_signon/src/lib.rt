@@ -17,7 +17,7 @@ use signon::{Answer, Explained, Reason, Verdict};
 
 // A verdict: 1 PANEL, 2 for 0002, 3 for 0003, 4 for 0004, 5 GRANT.
 #[repr(C)]
-#[derive(Drop)]
+#[derive(Clone, Copy)]
 pub struct TvVerdict {
     pub refusal: u8,
     pub verdict: u8,
@@ -78,7 +78,7 @@ pub extern "C" fn tv_verdict(server_seed: &[u8], table: &[u8], payload: &[u8]) -
 
 // A reason: the tens are the number of its verdict.
 #[repr(C)]
-#[derive(Drop)]
+#[derive(Clone, Copy)]
 pub struct TvExplained {
     pub refusal: u8,
     pub reason: u8,

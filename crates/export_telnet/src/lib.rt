@@ -21,7 +21,7 @@ use telnet_records::Record;
 // `length` is how many bytes the event carries, `next` the place after it. What an event does not have is 0, and all is
 // 0 where the input ended.
 #[repr(C)]
-#[derive(Drop)]
+#[derive(Clone, Copy)]
 pub struct TvEvent {
     pub what: u8,
     pub refusal: u8,
@@ -34,7 +34,7 @@ pub struct TvEvent {
 // A record. `complete` is 1, with its length and the place after it; or 0, with no refusal where the input ended before
 // an end-of-record.
 #[repr(C)]
-#[derive(Drop)]
+#[derive(Clone, Copy)]
 pub struct TvRecord {
     pub complete: u8,
     pub refusal: u8,

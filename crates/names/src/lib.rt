@@ -10,7 +10,7 @@ ghost use Rattle.names.specs.Name.{raised_byte, raised, is_name_byte, is_name, n
 ghost use Rattle.names.specs.Ebcdic.{ebcdic};
 
 // The raised bytes of a name with zeros after them, and how many they are: 0, where a text is no name.
-#[derive(Drop)]
+#[derive(Clone, Copy)]
 pub struct Name {
     pub bytes: [u8; PROFILE_LIMIT],
     pub length: usize,

@@ -8,7 +8,7 @@ use option_rules::{Command, Side};
 pub use replaying::replay;
 
 // The commands on the way to an end, the oldest first.
-#[derive(Drop)]
+#[derive(Clone, Copy)]
 pub enum Line {
     Empty,
     One(Command),
@@ -16,14 +16,14 @@ pub enum Line {
 }
 
 // One of two ends, with the line to it.
-#[derive(Drop)]
+#[derive(Clone, Copy)]
 pub struct Peer {
     pub side: Side,
     pub line: Line,
 }
 
 // Two ends after a list of calls, with the commands sent and the requests not refused in the whole list.
-#[derive(Drop)]
+#[derive(Clone, Copy)]
 pub struct Replayed {
     pub near: Peer,
     pub far: Peer,

@@ -15,7 +15,7 @@ use telnet::{Kind, Verb};
 use telnet_reader::Answer;
 
 // The sides afterwards; a number that is 0, a note or a refusal; and the place after what was put on the line.
-#[derive(Drop)]
+#[derive(Clone, Copy)]
 pub struct Sent {
     pub sides: Sides,
     pub number: u8,

@@ -19,14 +19,14 @@ pub const END_OF_RECORD: u8 = 25;
 pub const NEW_ENVIRON: u8 = 39;
 
 // "On" means WILL or DO and "off" WONT or DONT, as the side has it.
-#[derive(Drop)]
+#[derive(Clone, Copy)]
 pub enum Command {
     On,
     Off,
 }
 
 // The state of one side of an option.
-#[derive(Drop)]
+#[derive(Clone, Copy)]
 pub enum Side {
     Off,
     On,
@@ -36,14 +36,14 @@ pub enum Side {
     WantOnThenOff,
 }
 
-#[derive(Drop)]
+#[derive(Clone, Copy)]
 pub enum Sending {
     Nothing,
     Command(Command),
 }
 
 // What a call of a side gives: its successor; a refusal, a note or 0; and what is to be sent.
-#[derive(Drop)]
+#[derive(Clone, Copy)]
 pub struct Step {
     pub side: Side,
     pub number: u8,

@@ -8,14 +8,14 @@ use option_rules::Side;
 use option_verbs::Outgoing;
 
 // The two sides of one option.
-#[derive(Drop)]
+#[derive(Clone, Copy)]
 pub struct Pair {
     pub ours: Side,
     pub other: Side,
 }
 
 // The ten sides of a session.
-#[derive(Drop)]
+#[derive(Clone, Copy)]
 pub struct Sides {
     pub binary: Pair,
     pub suppress_go_ahead: Pair,
@@ -25,7 +25,7 @@ pub struct Sides {
 }
 
 // What a call of a session's sides gives: their successors; a refusal, a note or 0; and what is to be written.
-#[derive(Drop)]
+#[derive(Clone, Copy)]
 pub struct Answered {
     pub sides: Sides,
     pub number: u8,

@@ -8,21 +8,21 @@ use option_rules::{Command, Sending};
 use telnet::Verb;
 
 // Whose side of an option: ours, which WILL and WONT speak of when we send them, or the other end's.
-#[derive(Drop)]
+#[derive(Clone, Copy)]
 pub enum Whose {
     Ours,
     Other,
 }
 
 // What a command that was received says, and of which side.
-#[derive(Drop)]
+#[derive(Clone, Copy)]
 pub struct Told {
     pub whose: Whose,
     pub command: Command,
 }
 
 // The option command that is to be written, if any, with its option byte.
-#[derive(Drop)]
+#[derive(Clone, Copy)]
 pub enum Outgoing {
     Nothing,
     Command(Verb, u8),

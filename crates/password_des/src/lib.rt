@@ -10,7 +10,7 @@ ghost use Rattle.password_des.specs.Answer.{des_token, des_substitute};
 ghost use Rattle.des.specs.Cipher.{enciphered};
 
 // A token or a substitute, or the number of a refusal.
-#[derive(Drop)]
+#[derive(Clone, Copy)]
 pub enum Block {
     Value(u64),
     Refused(u8),

@@ -13,7 +13,7 @@ ghost use Rattle.password_sha.specs.Sha.{unicode, is_printable, is_password, PW-
 ghost use Rattle.password_sha.specs.Answer.{hash, no_hash, sha_token, sha_substitute};
 
 // A token or a substitute with refusal 0, or twenty zeros with the number of a refusal.
-#[derive(Drop)]
+#[derive(Clone, Copy)]
 pub struct Hash {
     pub refusal: u8,
     pub bytes: [u8; 20],

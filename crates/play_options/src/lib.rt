@@ -17,7 +17,7 @@ use option_verbs::Whose;
 use show_event::Sender;
 
 // What each end sends, and whether all of the options then rest on.
-#[derive(Drop)]
+#[derive(Clone, Copy)]
 pub struct Commands {
     pub down: [u8; 18],
     pub up: [u8; 18],

@@ -7,7 +7,7 @@ use mathlib.Core.Logic.{◌↔◌, ◌⊎◌, inl, inr, ⊎_elim}
 use Prim.Native.Nat.{ℕ, ◌+◌, ◌-◌, ◌*◌, ◌%◌, ◌≤◌, ◌<◌}
 use native.Mathlib.Omega.{arith}
 use lib.Bits.{and_mask}
-use lib.Dec.{T, eqb, ltb, T_not, not_t, eqb→eq, eqb_refl, ltb→lt, lt→ltb, lit<, lit≤}
+use lib.Dec.{T, eqb, ltb, T_not, not_T, eqb→eq, eqb_refl, ltb→lt, lt→ltb, lit<, lit≤}
 use lib.ListN.{length, get_or}
 use mir.Facts.{or_yes}
 use denote.Floats.{passes}
@@ -55,7 +55,7 @@ either {s} {t} a b = record {
     right false t h = h
 
 fails : {t : Bool} {P : Type 0} → Tests t P → Tests (not t) (P → ⊥)
-fails {t} a = record { says = λ h p. T_not t h (a.said p); said = λ n. not_t t (λ h. n (a.says h)) }
+fails {t} a = record { says = λ h p. T_not t h (a.said p); said = λ n. not_T t (λ h. n (a.says h)) }
 
 one-fails : {s t : Bool} {P Q : Type 0} → Tests s P → Tests t Q → Tests (not s || not t) (P × Q → ⊥)
 one-fails {s} {t} a b = record {
@@ -64,7 +64,7 @@ one-fails {s} {t} a b = record {
 }
   where
     by_first : (s t : Bool) → (T s → T t → ⊥) → T (not s || not t)
-    by_first true t n = not_t t (n tt)
+    by_first true t n = not_T t (n tt)
     by_first false t n = tt
 
 -- each of two with each of two

@@ -6,21 +6,21 @@ ghost use Rattle.print_frame.specs.Frame.{number_at, is_flow, direction_of, flag
 ghost use Rattle.print_frame.specs.Frame.{structure_length, header_length, data_place, said, header_of, frame_of};
 
 // Who sends a frame: the server (outbound) or the client (inbound).
-#[derive(Drop)]
+#[derive(Clone, Copy)]
 pub enum Direction {
     Outbound,
     Inbound,
 }
 
 // What a frame asks of the printer. From the client, a print is the print complete.
-#[derive(Drop)]
+#[derive(Clone, Copy)]
 pub enum Operation {
     Print,
     Clear,
 }
 
 // The flags of a frame that are not reserved.
-#[derive(Drop)]
+#[derive(Clone, Copy)]
 pub struct Flags {
     pub error: bool,
     pub intervention_required: bool,
@@ -30,14 +30,14 @@ pub struct Flags {
 }
 
 // Some bytes of a frame.
-#[derive(Drop)]
+#[derive(Clone, Copy)]
 pub struct Part {
     pub place: usize,
     pub length: usize,
 }
 
 // What a frame says.
-#[derive(Drop)]
+#[derive(Clone, Copy)]
 pub struct Frame {
     pub direction: Direction,
     pub diagnostics_included: bool,
@@ -48,7 +48,7 @@ pub struct Frame {
 }
 
 // A frame, or a refusal.
-#[derive(Drop)]
+#[derive(Clone, Copy)]
 pub enum FrameAnswer {
     Read(Frame),
     Refused(u8),

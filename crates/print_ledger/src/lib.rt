@@ -9,14 +9,14 @@ ghost use Rattle.octets.specs.Lent.{outcome};
 use print_frame::{Direction, Frame, FrameAnswer, Operation};
 
 // The ledger: whether a print record is held. It does not keep the record's bytes.
-#[derive(Drop)]
+#[derive(Clone, Copy)]
 pub struct Ledger {
     pub held: bool,
 }
 
 // What became of a frame that the ledger was given: its record is held, a clear found a record held or none, or a
 // refusal.
-#[derive(Drop)]
+#[derive(Clone, Copy)]
 pub enum Receipt {
     Held,
     Cleared,
@@ -25,21 +25,21 @@ pub enum Receipt {
 }
 
 // The ledger after a frame.
-#[derive(Drop)]
+#[derive(Clone, Copy)]
 pub struct Taken {
     pub ledger: Ledger,
     pub receipt: Receipt,
 }
 
 // The print complete record was written, or a refusal.
-#[derive(Drop)]
+#[derive(Clone, Copy)]
 pub enum Completion {
     Written,
     Refused(u8),
 }
 
 // The ledger after a completion.
-#[derive(Drop)]
+#[derive(Clone, Copy)]
 pub struct Completed {
     pub ledger: Ledger,
     pub completion: Completion,

@@ -14,7 +14,7 @@ use password_des::Block;
 use refusal::Written;
 
 // What a record says of DES: its mark and its token.
-#[derive(Drop)]
+#[derive(Clone, Copy)]
 struct DesPart {
     allowed: bool,
     token: [u8; 8],

@@ -10,7 +10,7 @@ ghost use Rattle.profile_record.specs.Step.{step_of};
 use profile::PROFILE_COUNT;
 
 // A record, by the length of its name, or the number of the table's refusal.
-#[derive(Drop)]
+#[derive(Clone, Copy)]
 pub enum Step {
     Next(usize),
     Stop(u8),

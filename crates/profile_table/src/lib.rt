@@ -12,14 +12,14 @@ ghost use Rattle.profile_table.specs.Internal.Steps.{found_here, scanned};
 use profile_record::Step;
 
 // How many profiles a table has, or the number of a refusal.
-#[derive(Drop)]
+#[derive(Clone, Copy)]
 pub enum TableCheck {
     Profiles(usize),
     Refused(u8),
 }
 
 // The place of a profile's record in its table, and its marks.
-#[derive(Drop)]
+#[derive(Clone, Copy)]
 pub struct Entry {
     pub at: usize,
     pub enabled: bool,
@@ -27,7 +27,7 @@ pub struct Entry {
 }
 
 // The profile of a name, or that there is none, or the number of the table's refusal.
-#[derive(Drop)]
+#[derive(Clone, Copy)]
 pub enum Found {
     Present(Entry),
     Absent,
@@ -35,7 +35,7 @@ pub enum Found {
 }
 
 // How many profiles there are, and what was found among them.
-#[derive(Drop)]
+#[derive(Clone, Copy)]
 struct Scan {
     count: usize,
     found: Found,

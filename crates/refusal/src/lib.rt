@@ -77,7 +77,7 @@ pub const NONE_HELD: u8 = 51;
 pub const INBOUND_FRAME: u8 = 52;
 
 // How many bytes were written to the front of a buffer, or the number of a refusal.
-#[derive(Drop)]
+#[derive(Clone, Copy)]
 pub enum Written {
     Wrote(usize),
     Refused(u8),

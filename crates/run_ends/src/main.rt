@@ -22,7 +22,7 @@ use option_rules::{Command, Side};
 // Nine digits for each of five calls, eight of them calls and one none; twice, for accepting and declining.
 const RUNS: u32 = 118098;
 
-#[derive(Drop)]
+#[derive(Clone, Copy)]
 struct Night {
     deep: u64,
     sent: u64,
@@ -30,7 +30,7 @@ struct Night {
     rests: bool,
 }
 
-#[derive(Drop)]
+#[derive(Clone, Copy)]
 struct Tally {
     deep: u64,
     most: u64,

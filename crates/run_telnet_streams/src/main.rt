@@ -34,7 +34,7 @@ fn closed_number(closed: Closed) -> usize {
 }
 
 // What streams came to.
-#[derive(Drop)]
+#[derive(Clone, Copy)]
 struct Tally {
     rest: usize,
     waiting: usize,
@@ -45,7 +45,7 @@ struct Tally {
 }
 
 // A reader after a part of a stream, and what it gave.
-#[derive(Drop)]
+#[derive(Clone, Copy)]
 struct Part {
     reader: Reader,
     data: usize,

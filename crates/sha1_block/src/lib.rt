@@ -9,7 +9,7 @@ ghost use Rattle.sha1_block.specs.Held.{five};
 ghost use Rattle.sha1_block.specs.Internal.Between.{planned, Carried};
 
 // The five words of a hash value, or the working variables.
-#[derive(Drop)]
+#[derive(Clone, Copy)]
 pub struct Words {
     pub a: u32,
     pub b: u32,

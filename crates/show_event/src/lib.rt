@@ -13,7 +13,7 @@ use telnet::Kind;
 use telnet_reader::Answer;
 
 // The two ends of a session.
-#[derive(Drop)]
+#[derive(Clone, Copy)]
 pub enum Sender {
     Host,
     Printer,

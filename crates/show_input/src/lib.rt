@@ -10,7 +10,7 @@ ghost use Rattle.show_input.specs.Cut.{announced_in, left_after};
 use std::io::{Read, Stdin};
 
 // How many bytes were read, and whether a read failed. At the end of the input none are read.
-#[derive(Drop)]
+#[derive(Clone, Copy)]
 pub struct Input {
     pub count: usize,
     pub failed: bool,

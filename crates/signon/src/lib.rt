@@ -4,7 +4,7 @@
 // A verdict (the specification's own term).
 #![tactic(auto)]
 
-#[derive(Drop)]
+#[derive(Clone, Copy)]
 pub enum Verdict {
     Panel,
     NotKnown,
@@ -14,14 +14,14 @@ pub enum Verdict {
 }
 
 // A verdict, or the number of a refusal.
-#[derive(Drop)]
+#[derive(Clone, Copy)]
 pub enum Answer {
     Given(Verdict),
     Refused(u8),
 }
 
 // Why a sign-on is answered as it is (change request No. 1, in its words and order).
-#[derive(Drop)]
+#[derive(Clone, Copy)]
 pub enum Reason {
     PanelAskedFor,
     NoUser,
@@ -39,7 +39,7 @@ pub enum Reason {
 }
 
 // A reason, or the number of a refusal.
-#[derive(Drop)]
+#[derive(Clone, Copy)]
 pub enum Explained {
     Because(Reason),
     Refused(u8),

@@ -15,7 +15,7 @@ use env_search::ValuePlace;
 use signon::Reason;
 
 // The reason, where it needs no profile; or else the profile of the user is to be looked up.
-#[derive(Drop)]
+#[derive(Clone, Copy)]
 pub enum Early {
     Because(Reason),
     LookUp,

@@ -25,7 +25,7 @@ pub const IAC: u8 = 255;
 pub const PAYLOAD_LIMIT: usize = 1024;
 
 // The option commands.
-#[derive(Drop)]
+#[derive(Clone, Copy)]
 pub enum Verb {
     Will,
     Wont,
@@ -35,7 +35,7 @@ pub enum Verb {
 
 // What a byte after a 255 begins: nothing that Telnet has, a subnegotiation, an option command, or a simple command
 // that it is itself.
-#[derive(Drop)]
+#[derive(Clone, Copy)]
 pub enum Lead {
     Faulty,
     Opens,
@@ -44,7 +44,7 @@ pub enum Lead {
 }
 
 // An event without the bytes that it carries, which are in a buffer of their own.
-#[derive(Drop)]
+#[derive(Clone, Copy)]
 pub enum Kind {
     Data,
     Command(u8),

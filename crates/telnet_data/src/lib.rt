@@ -10,7 +10,7 @@ ghost use Rattle.telnet_data.specs.Internal.Pieces.{is_doubled, PlainCopied};
 use telnet::IAC;
 
 // The stretch of data at a place: how many bytes it carries, and the place after it.
-#[derive(Drop)]
+#[derive(Clone, Copy)]
 pub struct Extent {
     pub count: usize,
     pub end: usize,

@@ -11,7 +11,7 @@ pub const CALL_LIMIT: usize = 1024;
 pub const ROOM: usize = 2048;
 
 // What a stream may fail by: 2, 3 and 6.
-#[derive(Drop)]
+#[derive(Clone, Copy)]
 pub enum Fault {
     Undoubled,
     TooLong,
@@ -19,7 +19,7 @@ pub enum Fault {
 }
 
 // Where a reader is between two bytes.
-#[derive(Drop)]
+#[derive(Clone, Copy)]
 pub enum Stage {
     Data,
     IacSeen,
@@ -31,7 +31,7 @@ pub enum Stage {
 }
 
 // A reader: where it is, and in a subnegotiation how many payload bytes are kept for it.
-#[derive(Drop)]
+#[derive(Clone, Copy)]
 pub struct Reader {
     pub stage: Stage,
     pub count: usize,
@@ -40,7 +40,7 @@ pub struct Reader {
 // What a call gives: the reader to go on with; 0, or a number; how many bytes of the fragment it took; how many bytes
 // of data are at the front of the room; the event (Data where there is none); and how many payload bytes are right
 // after the data.
-#[derive(Drop)]
+#[derive(Clone, Copy)]
 pub struct Taken {
     pub reader: Reader,
     pub number: u8,
@@ -51,7 +51,7 @@ pub struct Taken {
 }
 
 // What closing gives: the end, or a number, 1 where the reader is waiting.
-#[derive(Drop)]
+#[derive(Clone, Copy)]
 pub enum Closed {
     End,
     Number(u8),

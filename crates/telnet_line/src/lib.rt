@@ -13,7 +13,7 @@ use telnet_reader::Answer;
 mod words;
 
 // The text of a line with zeros after it, and its length: no line is longer than 67 bytes.
-#[derive(Drop)]
+#[derive(Clone, Copy)]
 pub struct LineText {
     pub bytes: [u8; 67],
     pub length: usize,

@@ -12,14 +12,14 @@ use telnet::{Kind, Verb};
 use telnet_reader::Answer;
 
 // A word with zeros after it, and its length.
-#[derive(Drop)]
+#[derive(Clone, Copy)]
 struct Word {
     bytes: [u8; 7],
     length: usize,
 }
 
 // What a line says: a word, and up to two numbers after it.
-#[derive(Drop)]
+#[derive(Clone, Copy)]
 pub(crate) struct Phrase {
     word: Word,
     one: bool,

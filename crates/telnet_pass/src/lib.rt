@@ -11,7 +11,7 @@ use telnet_stage::Act;
 
 // What bytes came to: the stage and the payload bytes that are kept, how many bytes were taken, how many bytes of data
 // are at the front of the buffer, and the event (Data where there is none).
-#[derive(Drop)]
+#[derive(Clone, Copy)]
 pub struct Run {
     pub stage: Stage,
     pub count: usize,

@@ -12,7 +12,7 @@ use telnet::{Kind, Lead, PAYLOAD_LIMIT, SE, Verb};
 
 // What is at a place: nothing more, an event with the number of bytes that it carries and the place after it, or a
 // refusal.
-#[derive(Drop)]
+#[derive(Clone, Copy)]
 pub enum Answer {
     End,
     Found {

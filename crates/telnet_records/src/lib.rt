@@ -13,7 +13,7 @@ use telnet_data::Extent;
 use telnet_reader::Answer;
 
 // A record, with the number of its bytes and the place after it; no end-of-record before the input ended; or a refusal.
-#[derive(Drop)]
+#[derive(Clone, Copy)]
 pub enum Record {
     Complete { length: usize, next: usize },
     Unfinished,
@@ -21,7 +21,7 @@ pub enum Record {
 }
 
 // What one event makes of a record: more of it is to come from a place on, after so much data; or it is known.
-#[derive(Drop)]
+#[derive(Clone, Copy)]
 pub enum Progress {
     More { place: usize, count: usize },
     Done(Record),

@@ -12,7 +12,7 @@ use telnet_fragments::{Fault, Stage};
 
 // What is to be done with a byte: nothing more, it is data, it is kept in the payload, or the call ends with an event
 // (Data: with a fault).
-#[derive(Drop)]
+#[derive(Clone, Copy)]
 pub enum Act {
     Waits,
     Gives,
@@ -21,7 +21,7 @@ pub enum Act {
 }
 
 // What one byte makes of a reader.
-#[derive(Drop)]
+#[derive(Clone, Copy)]
 pub struct Turn {
     pub stage: Stage,
     pub count: usize,

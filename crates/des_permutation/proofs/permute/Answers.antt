@@ -1,7 +1,7 @@
 -- `des_permutation::permute` meets its contract: the bits still to be taken, after those that were, give the whole. The
 -- measure is `length places - i`. Assumes nothing.
 use mathlib.Core.Path.{◌≡◌, sym, ◌∙◌}
-use mathlib.Core.List.{List, map}
+use mathlib.Core.List.{List}
 use Prim.Native.Nat.{ℕ, ◌+◌, ◌-◌, ◌*◌, ◌/◌, ◌%◌, ◌^◌, ◌≤◌, ◌<◌}
 use native.Mathlib.Nat.{lt_of_lt_of_le}
 use native.Mathlib.Numerals.{add-one}
@@ -13,11 +13,9 @@ use lib.Seq.{drop-cons}
 use borrow.Author.Rules.{rules}
 use Rattle.des.specs.Blocks.{bit, continued, permuted}
 use Rattle.des_permutation.proofs.Places.{within-at}
+use Rattle.des_permutation.proofs.permute.Invariants.{rest}
 use Rattle.des_permutation.proofs.permute.Goals.{After-shared_slice_known-1}
 use Rattle.des_permutation.proofs.permute.Goals as goal
-
-abbrev rest : ℕ → ℕ → ℕ → List ℕ → ℕ
-rest w x a places = continued 1 a (map (bit w x) places)
 
 -- one bit more after a number of i bits
 after : (a n i : ℕ) → a < 2 ^ i → i < 64 → bit_or (a * 2 % 2 ^ 64) (bit_and n 1) ≡ a * 2 + n % 2

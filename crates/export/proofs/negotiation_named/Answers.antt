@@ -3,7 +3,7 @@ use mathlib.Core.Path.{sym, ◌∙◌}
 use Rattle.export.proofs.negotiation_named.Goals as goal
 
 pub returns-in-Verb : goal.returns-in-Verb
-returns-in-Verb c = rw (sym c.verb_named.ensures ∙ c.verb-1.given.1)
+returns-in-Verb c = rw (sym c.verb_named.ensures ∙ c.in-Verb.is)
 
 pub returns-in-Nothing : goal.returns-in-Nothing
-returns-in-Nothing c = rw (sym c.verb_named.ensures ∙ c.enum_told-1.given.1)
+returns-in-Nothing c = rw (sym c.verb_named.ensures ∙ c.in-Nothing.is)

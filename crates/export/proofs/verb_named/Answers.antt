@@ -5,22 +5,22 @@ use Rattle.export.proofs.verb_named.Goals as goal
 
 pub returns-in-251 : goal.returns-in-251
 unfolding verb_named
-returns-in-251 c = rw c.in-251.keys1
+returns-in-251 c = rw c.in-251.is
 
 pub returns-in-252 : goal.returns-in-252
 unfolding verb_named
-returns-in-252 c = rw c.in-252.keys2
+returns-in-252 c = rw c.in-252.is
 
 pub returns-in-253 : goal.returns-in-253
 unfolding verb_named
-returns-in-253 c = rw c.in-253.keys3
+returns-in-253 c = rw c.in-253.is
 
 pub returns-in-254 : goal.returns-in-254
 unfolding verb_named
-returns-in-254 c = rw c.in-254.keys4
+returns-in-254 c = rw c.in-254.is
 
 pub returns-in_default : goal.returns-in_default
 unfolding verb_named
 returns-in_default c =
-    let r = c.in_default.rest in
+    let r = c.in_default.is in
     rw (ne_eqb _ _ r.0.0.0.1, ne_eqb _ _ r.0.0.1, ne_eqb _ _ r.0.1, ne_eqb _ _ r.1)

@@ -26,19 +26,19 @@ no_sign b d h a u = rw (ne_eqb b 0x24 d, ne_eqb b 0x23 h, ne_eqb b 0x40 a, ne_eq
 -- $ # @ _
 pub returns-in-36 : goal.returns-in-36
 unfolding ebcdic
-returns-in-36 c = rw c.in-36.keys1
+returns-in-36 c = rw c.in-36.is
 
 pub returns-in-35 : goal.returns-in-35
 unfolding ebcdic
-returns-in-35 c = rw c.in-35.keys2
+returns-in-35 c = rw c.in-35.is
 
 pub returns-in-64 : goal.returns-in-64
 unfolding ebcdic
-returns-in-64 c = rw c.in-64.keys3
+returns-in-64 c = rw c.in-64.is
 
 pub returns-in-95 : goal.returns-in-95
 unfolding ebcdic
-returns-in-95 c = rw c.in-95.keys4
+returns-in-95 c = rw c.in-95.is
 
 -- 0-9, A-I, J-R, S-Z
 pub returns-in-48-to-57 : goal.returns-in-48-to-57

@@ -2,10 +2,10 @@
 -- is left to count are the whole, and there are no more marks than bytes. The measure is how many bytes are left.
 -- Assumes nothing.
 use mathlib.Core.Path.{ap, sym, ◌∙◌}
-use mathlib.Core.Logic.{⊎_elim}
 use native.Mathlib.Omega.{arith}
 use lib.ListN.{length, get_or}
 use Rattle.octets_marked.proofs.Marked.{marked-pair, marked-one, length-marked-at, marked-end}
+use Rattle.octets_marked.proofs.marked_length.Goals.{else-lies, then-lies}
 use Rattle.octets_marked.proofs.marked_length.Goals as goal
 
 pub loop-i-init : goal.loop-i-init
@@ -18,19 +18,20 @@ loop-i-preserved c =
     let s = a.bytes.now in
     let b = get_or s l.i 0 in
     let is = sym c.lies.ensures in
-    ⊎_elim (λ w. (
-      omega (arith, w.1),
-      omega arith,
-      λ mark.
-          omega (arith, w.1, length-marked-at mark a.low a.high s l.i (omega arith), ap length (marked-pair mark a.low a.high b (is ∙ w.0.taken)), l.invariant.2 mark),
-    ))
-    (λ w. (
-      omega (arith, w.1),
-      omega arith,
-      λ mark.
-          omega (arith, w.1, length-marked-at mark a.low a.high s l.i (omega arith), ap length (marked-one mark a.low a.high b (is ∙ w.0.left)), l.invariant.2 mark),
-    ))
-    c.if-lies.branch
+    elim c.if-lies.branch [
+      | then-lies w ↦ (
+        omega arith,
+        omega arith,
+        λ mark.
+            omega (arith, length-marked-at mark a.low a.high s l.i (omega arith), ap length (marked-pair mark a.low a.high b (is ∙ w.if-lies.true)), l.invariant.2 mark),
+      )
+      | else-lies w ↦ (
+        omega arith,
+        omega arith,
+        λ mark.
+            omega (arith, length-marked-at mark a.low a.high s l.i (omega arith), ap length (marked-one mark a.low a.high b (is ∙ w.if-lies.false)), l.invariant.2 mark),
+      )
+    ]
 
 pub returns : goal.returns
 returns c =

@@ -7,24 +7,24 @@ use Rattle.option_rules.proofs.carried.Goals as goal
 
 pub returns-in-0 : goal.returns-in-0
 unfolding carried choose
-returns-in-0 c = rw c.in-0.keys1
+returns-in-0 c = rw c.in-0.is
 
 pub returns-in-3 : goal.returns-in-3
 unfolding carried choose
-returns-in-3 c = rw c.in-3.keys2
+returns-in-3 c = rw c.in-3.is
 
 pub returns-in-24 : goal.returns-in-24
 unfolding carried choose
-returns-in-24 c = rw c.in-24.keys3
+returns-in-24 c = rw c.in-24.is
 
 pub returns-in-25 : goal.returns-in-25
 unfolding carried choose
-returns-in-25 c = rw c.in-25.keys4
+returns-in-25 c = rw c.in-25.is
 
 pub returns-in-39 : goal.returns-in-39
 unfolding carried choose
-returns-in-39 c = rw c.in-39.keys5
+returns-in-39 c = rw c.in-39.is
 
 pub returns-in_default : goal.returns-in_default
 unfolding carried
-returns-in_default c = sym (choose-none c.args.option c.in_default.rest true true true true true false)
+returns-in_default c = sym (choose-none c.args.option c.in_default.is true true true true true false)

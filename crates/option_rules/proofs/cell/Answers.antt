@@ -12,12 +12,12 @@ off-sent (suc zero) h k = absurd (k refl)
 off-sent (suc (suc n)) h k = refl
 
 pub returns-in-0 : goal.returns-in-0
-returns-in-0 c = rw c.in-0.keys1
+returns-in-0 c = rw c.in-0.is
 
 pub returns-in-1 : goal.returns-in-1
-returns-in-1 c = rw c.in-1.keys2
+returns-in-1 c = rw c.in-1.is
 
 pub returns-in_default : goal.returns-in_default
 returns-in_default c =
     let a = c.args in
-    ap (λ s. record { side = a.side; number = a.number; sends = s }) (off-sent a.sends c.in_default.rest.0.1 c.in_default.rest.1)
+    ap (λ s. record { side = a.side; number = a.number; sends = s }) (off-sent a.sends c.in_default.is.0.1 c.in_default.is.1)

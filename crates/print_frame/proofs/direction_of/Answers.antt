@@ -5,12 +5,12 @@ use Rattle.print_frame.proofs.direction_of.Goals as goal
 
 pub returns-in-257 : goal.returns-in-257
 unfolding goes direction_of
-returns-in-257 c = rw c.in-257.keys1
+returns-in-257 c = rw c.in-257.is
 
 pub returns-in-4353 : goal.returns-in-4353
 unfolding goes direction_of
-returns-in-4353 c = rw c.in-4353.keys2
+returns-in-4353 c = rw c.in-4353.is
 
 pub returns-in_default : goal.returns-in_default
 unfolding goes direction_of
-returns-in_default c = let r = c.in_default.rest in rw (ne_eqb _ _ r.0.1, ne_eqb _ _ r.1)
+returns-in_default c = let r = c.in_default.is in rw (ne_eqb _ _ r.0.1, ne_eqb _ _ r.1)

@@ -5,8 +5,8 @@ use Rattle.print_frame.proofs.operation_of.Goals as goal
 
 pub returns-in-1 : goal.returns-in-1
 unfolding operation_of
-returns-in-1 c = rw c.in-1.keys1
+returns-in-1 c = rw c.in-1.is
 
 pub returns-in_default : goal.returns-in_default
 unfolding operation_of
-returns-in_default c = rw (ne_eqb _ _ c.in_default.rest.1)
+returns-in_default c = rw (ne_eqb _ _ c.in_default.is.1)

@@ -10,7 +10,7 @@ use Rattle.show.proofs.put_number.Goals as goal
 
 pub overflow_add-result : goal.overflow_add-result
 overflow_add-result c =
-    omega (arith, had-room (decimal c.args.n) c.args.out.now c.args.at c.put_decimal.ensures c.if-put_decimal.true, c.well-formed.1.0)
+    omega (arith, had-room (decimal c.args.n) c.args.out.now c.args.at c.put_decimal.ensures c.if-put_decimal.true, c.well_formed.1.0)
 
 pub returns-then-put_decimal : goal.returns-then-put_decimal
 returns-then-put_decimal c =

@@ -5,7 +5,7 @@ use Rattle.show.proofs.put_text.Goals as goal
 
 pub overflow_add-result : goal.overflow_add-result
 overflow_add-result c =
-    omega (arith, had-room c.args.words.now c.args.out.now c.args.at c.put.ensures c.if-put.true, c.well-formed.1.0)
+    omega (arith, had-room c.args.words.now c.args.out.now c.args.at c.put.ensures c.if-put.true, c.well_formed.1.0)
 
 pub returns-then-put : goal.returns-then-put
 returns-then-put c =

@@ -9,29 +9,29 @@ returns-then-not-carried c = c.cell.ensures ∙ rw (by-none c.args.option _ c.ca
 pub returns-in-Off : goal.returns-in-Off
 returns-in-Off c =
     at-cell (λ r. r.receive_off) c.args.option c.carried.ensures c.if-not-carried.false
-    c.enum_told-1.given.1 c.cell-in-Off.ensures
+    c.in-Off.is c.cell-in-Off.ensures
 
 pub returns-in-On : goal.returns-in-On
 returns-in-On c =
     at-cell (λ r. r.receive_off) c.args.option c.carried.ensures c.if-not-carried.false
-    c.enum_told-in-On-1.given.1 c.cell-in-On.ensures
+    c.in-On.is c.cell-in-On.ensures
 
 pub returns-in-WantOff : goal.returns-in-WantOff
 returns-in-WantOff c =
     at-cell (λ r. r.receive_off) c.args.option c.carried.ensures c.if-not-carried.false
-    c.enum_told-in-WantOff-1.given.1 c.cell-in-WantOff.ensures
+    c.in-WantOff.is c.cell-in-WantOff.ensures
 
 pub returns-in-WantOffThenOn : goal.returns-in-WantOffThenOn
 returns-in-WantOffThenOn c =
     at-cell (λ r. r.receive_off) c.args.option c.carried.ensures c.if-not-carried.false
-    c.enum_told-in-WantOffThenOn-1.given.1 c.cell-in-WantOffThenOn.ensures
+    c.in-WantOffThenOn.is c.cell-in-WantOffThenOn.ensures
 
 pub returns-in-WantOn : goal.returns-in-WantOn
 returns-in-WantOn c =
     at-cell (λ r. r.receive_off) c.args.option c.carried.ensures c.if-not-carried.false
-    c.enum_told-in-WantOn-1.given.1 c.cell-in-WantOn.ensures
+    c.in-WantOn.is c.cell-in-WantOn.ensures
 
 pub returns-in-WantOnThenOff : goal.returns-in-WantOnThenOff
 returns-in-WantOnThenOff c =
     at-cell (λ r. r.receive_off) c.args.option c.carried.ensures c.if-not-carried.false
-    c.enum_told-in-WantOnThenOff-1.given.1 c.cell-in-WantOnThenOff.ensures
+    c.in-WantOnThenOff.is c.cell-in-WantOnThenOff.ensures

@@ -11,35 +11,35 @@ pub returns-then-accept : goal.returns-then-accept
 returns-then-accept c =
     rw c.if-accept.true
     (at-cell (λ r. r.receive_on true) c.args.option c.carried.ensures c.if-not-carried.false
-    c.enum_told-1.given.1 c.cell-then-accept.ensures)
+    c.in-Off.is c.cell-then-accept.ensures)
 
 pub returns-else-accept : goal.returns-else-accept
 returns-else-accept c =
     rw c.if-accept.false
     (at-cell (λ r. r.receive_on false) c.args.option c.carried.ensures c.if-not-carried.false
-    c.enum_told-1.given.1 c.cell-else-accept.ensures)
+    c.in-Off.is c.cell-else-accept.ensures)
 
 pub returns-in-On : goal.returns-in-On
 returns-in-On c =
     at-cell (λ r. r.receive_on c.args.accept) c.args.option c.carried.ensures c.if-not-carried.false
-    c.enum_told-in-On-1.given.1 c.cell-in-On.ensures
+    c.in-On.is c.cell-in-On.ensures
 
 pub returns-in-WantOff : goal.returns-in-WantOff
 returns-in-WantOff c =
     at-cell (λ r. r.receive_on c.args.accept) c.args.option c.carried.ensures c.if-not-carried.false
-    c.enum_told-in-WantOff-1.given.1 c.cell-in-WantOff.ensures
+    c.in-WantOff.is c.cell-in-WantOff.ensures
 
 pub returns-in-WantOffThenOn : goal.returns-in-WantOffThenOn
 returns-in-WantOffThenOn c =
     at-cell (λ r. r.receive_on c.args.accept) c.args.option c.carried.ensures c.if-not-carried.false
-    c.enum_told-in-WantOffThenOn-1.given.1 c.cell-in-WantOffThenOn.ensures
+    c.in-WantOffThenOn.is c.cell-in-WantOffThenOn.ensures
 
 pub returns-in-WantOn : goal.returns-in-WantOn
 returns-in-WantOn c =
     at-cell (λ r. r.receive_on c.args.accept) c.args.option c.carried.ensures c.if-not-carried.false
-    c.enum_told-in-WantOn-1.given.1 c.cell-in-WantOn.ensures
+    c.in-WantOn.is c.cell-in-WantOn.ensures
 
 pub returns-in-WantOnThenOff : goal.returns-in-WantOnThenOff
 returns-in-WantOnThenOff c =
     at-cell (λ r. r.receive_on c.args.accept) c.args.option c.carried.ensures c.if-not-carried.false
-    c.enum_told-in-WantOnThenOff-1.given.1 c.cell-in-WantOnThenOff.ensures
+    c.in-WantOnThenOff.is c.cell-in-WantOnThenOff.ensures

@@ -8,8 +8,7 @@ use Rattle.des.specs.Blocks.{continued, permuted, group}
 use Rattle.des.specs.Tables.{E}
 use Rattle.des.proofs.Each.{at}
 use Rattle.des.proofs.Linear.{Linear, down, cut, up, after, ◌⊕◌, table, same, agree}
-use Rattle.des_cipher.proofs.cipher.widen.Statement.{statement}
-use Rattle.des_cipher.proofs.cipher.widen.Tie as tie
+use Rattle.des_cipher.proofs.cipher.widen.Goals as goal
 
 widened : ℕ → ℕ
 widened R = bit_xor (bit_xor (R % 2 ^ 1 * 2 ^ 33 % 2 ^ 64) (R * 2 ^ 1 % 2 ^ 64)) (R / 2 ^ 31)
@@ -40,9 +39,6 @@ tested j h = at (λ i. same (left i) (right i) 32) 8 tt j h
 grouped : (j R : ℕ) → j < 8 → R < 2 ^ 32 → left j R ≡ right j R
 grouped j R h g = agree (left-linear j) (right-linear j) 32 (tested j h) R g
 
-returns : tie.Need-returns
+pub returns : goal.returns
 unfolding left right widened
 returns c = λ j h. grouped j c.args.r h c.requires ∙ rw (and_mask c.args.r 1)
-
-pub widen_spec : {M : Type 1} → statement M
-widen_spec = tie.close (tie.spec returns)

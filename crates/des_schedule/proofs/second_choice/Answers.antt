@@ -5,8 +5,7 @@ use lib.Bits.{bit_and}
 use Rattle.des.specs.Blocks.{continued, permuted}
 use Rattle.des.specs.Tables.{PC-2}
 use Rattle.des.proofs.Linear.{Linear, down, cut, up, keep, after, ◌⊕◌, table, agree}
-use Rattle.des_schedule.proofs.second_choice.Statement.{statement}
-use Rattle.des_schedule.proofs.second_choice.Tie as tie
+use Rattle.des_schedule.proofs.second_choice.Goals as goal
 
 left : (m k : ℕ) → Linear (λ x. bit_and x m * 2 ^ k % 2 ^ 64)
 left m k = after (cut 64) (after (up k) (keep m))
@@ -14,7 +13,7 @@ left m k = after (cut 64) (after (up k) (keep m))
 right : (m k : ℕ) → Linear (λ x. bit_and x m / 2 ^ k)
 right m k = after (down k) (keep m)
 
-returns : tie.Need-returns
+pub returns : goal.returns
 unfolding permuted continued
 returns c =
     agree
@@ -25,6 +24,3 @@ returns c =
     ⊕ right 0x110000000000 11 ⊕ right 0xA4000000000000 12 ⊕ right 0x400000 15 ⊕ right 0x1080000100000 18 ⊕ right 0x10000000000000 20
     ⊕ right 0x2000000000000 21 ⊕ right 0x1000000 24 ⊕ right 0x8000000 26 ⊕ right 0x40000000000000 30)
     (table 56 PC-2) 56 tt c.args.x c.requires
-
-pub second-choice-spec : {M : Type 1} → statement M
-second-choice-spec = tie.close (tie.spec returns)

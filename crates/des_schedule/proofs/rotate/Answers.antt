@@ -6,9 +6,7 @@ use native.Mathlib.Nat.{add-zero, add_comm, mul-mod_left, lt_of_le_of_lt}
 use native.Mathlib.Omega.{arith}
 use lib.Bits.{bit_and, bit_or, and_mask, mask_lt, or_shifted, or_lt}
 use lib.Pow.{shl-shr, shr_le, shr_lt, mod-pow-add, mod-mod-pow}
-use borrow.Author.Rules.{rules}
-use Rattle.des_schedule.proofs.rotate.Statement.{statement}
-use Rattle.des_schedule.proofs.rotate.Tie as tie
+use Rattle.des_schedule.proofs.rotate.Goals as goal
 
 -- a shift by n within m + n bits leaves n zeros
 room : (c m n : ℕ) → c * 2 ^ n % 2 ^ (m + n) ≡ c % 2 ^ m * 2 ^ n
@@ -17,19 +15,7 @@ room c m n = mod-pow-add (c * 2 ^ n) m n ∙ rw (shl-shr c n, mul-mod_left c (2 
 joins : (c m n : ℕ) → c < 2 ^ (m + n) → bit_or (c * 2 ^ n % 2 ^ (m + n)) (c / 2 ^ m) ≡ c * 2 ^ n % 2 ^ (m + n) + c / 2 ^ m
 joins c m n h = rw (room c m n) (or_shifted (c % 2 ^ m) n (c / 2 ^ m) (shr_lt n m (rw (add_comm n m) h)))
 
-shl-result : tie.Need-overflow-shl-result
-shl-result c = search rules
-
-sub-result : tie.Need-overflow-sub-result
-sub-result c = search rules
-
-cast-result : tie.Need-overflow-cast-result
-cast-result c = search rules
-
-shr-result : tie.Need-overflow-shr-result
-shr-result c = search rules
-
-returns : tie.Need-returns
+pub returns : goal.returns
 returns c =
     let n = c.args.n in
     let e : 28 - n + n ≡ 28 = omega arith in
@@ -38,6 +24,3 @@ returns c =
       rw kept (rw e at (joins c.args.c (28 - n) n (rw e c.requires.0))),
       or_lt 28 _ _ (mask_lt (c.args.c * 2 ^ n % 2 ^ 64) 28) (lt_of_le_of_lt (shr_le c.args.c (28 - n)) c.requires.0),
     )
-
-pub rotate-spec : {M : Type 1} → statement M
-rotate-spec = tie.close (tie.spec shl-result sub-result cast-result shr-result returns)

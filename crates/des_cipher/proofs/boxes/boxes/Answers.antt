@@ -4,12 +4,8 @@ use mathlib.Core.Path.{refl}
 use Rattle.des.specs.Blocks.{continued, permuted}
 use Rattle.des.specs.Cipher.{selected}
 use Rattle.des_cipher.specs.Internal.Boxes.{box_array}
-use Rattle.des_cipher.proofs.boxes.boxes.Statement.{statement}
-use Rattle.des_cipher.proofs.boxes.boxes.Tie as tie
+use Rattle.des_cipher.proofs.boxes.boxes.Goals as goal
 
-returns : tie.Need-returns
+pub returns : goal.returns
 unfolding box_array selected permuted continued
 returns c = refl
-
-pub boxes-spec : {M : Type 1} → statement M
-boxes-spec = tie.close (tie.spec returns)

@@ -5,14 +5,13 @@ use lib.Bits.{bit_and, bit_xor}
 use Rattle.des.specs.Blocks.{continued, permuted}
 use Rattle.des.specs.Tables.{P}
 use Rattle.des.proofs.Linear.{Linear, as-it-is, down, cut, up, keep, after, ◌⊕◌, table, agree}
-use Rattle.des_cipher.proofs.cipher.permute_p.Statement.{statement}
-use Rattle.des_cipher.proofs.cipher.permute_p.Tie as tie
+use Rattle.des_cipher.proofs.cipher.permute_p.Goals as goal
 
 -- the bits under m of the word that is there twice, shifted right by k
 turned : (k m : ℕ) → Linear (λ x. bit_and (bit_xor (x * 2 ^ 32 % 2 ^ 64) x / 2 ^ k) m)
 turned k m = after (keep m) (after (down k) (after (cut 64) (up 32) ⊕ as-it-is))
 
-returns : tie.Need-returns
+pub returns : goal.returns
 unfolding permuted continued
 returns c =
     agree
@@ -21,6 +20,3 @@ returns c =
     ⊕ turned 19 0x4 ⊕ turned 20 0x200200 ⊕ turned 21 0x800 ⊕ turned 22 0x10 ⊕ turned 23 0x1000000
     ⊕ turned 26 0x4000000 ⊕ turned 27 0x40402402 ⊕ turned 28 0x40000 ⊕ turned 29 0x20)
     (table 32 P) 32 tt c.args.word c.requires
-
-pub permute-p-spec : {M : Type 1} → statement M
-permute-p-spec = tie.close (tie.spec returns)
