@@ -17,7 +17,7 @@ def chunks(text):
     """The text's parts that begin in the first column, each with the lines that belong to it."""
     out = []
     for line in text.split("\n"):
-        if line and not line[0].isspace() and not (out and line[0] == ")"):
+        if line and not line[0].isspace() and not (out and line[0] in ")}]"):
             out.append([line])
         elif out:
             out[-1].append(line)
@@ -27,6 +27,7 @@ def chunks(text):
 class Decl:
     def __init__(self, name, sig):
         self.name, self.sig, self.unfolding, self.body, self.comment = name, sig, "", [], []
+        self.macro = False
 
 
 def parse(text):
@@ -74,11 +75,23 @@ class Names:
 
     def need(self, old):
         """The place and the new name of a need."""
-        o = re.sub(r"^overflow-(?=(add|sub|mul|shl|shr|cast|neg)\b)", "", old)
+        o = re.sub(r"^slice-bounds-", "part-", old)
+        o = re.sub(r"^overflow-(?=(add|sub|mul|shl|shr|cast|neg)\b)", "", o)
         for k, (a, b) in enumerate(self.needs):
             if alike(a) in (alike(o), alike(old)):
                 return k, b
         return None
+
+
+def parameters_of(crate_folder, module):
+    """The names of a function's parameters, in their order, from its source."""
+    for folder, _, files in os.walk(os.path.join(crate_folder, "src")):
+        for f in files:
+            with open(os.path.join(folder, f), encoding="utf-8") as it:
+                m = re.search(r"\bfn " + re.escape(module.split(".")[-1]) + r"(?:<[^>]*>)?\(([^)]*)\)", it.read())
+            if m:
+                return [re.sub(r"^(&?'?\w* ?mut |&|mut )*", "", p.split(":")[0].strip()) for p in m.group(1).split(",") if p.strip()]
+    return []
 
 
 class Bad(Exception):
@@ -88,6 +101,7 @@ class Bad(Exception):
 def turn_text(text, env, names, goal, notes):
     """A term with its chains of places resolved. env: variable -> place."""
     env = dict(env)
+    root = next(iter(env.values()), "Start")
     word = re.compile(r"(?<![\w.'₀-₉-])(" + r"[A-Za-z_][\w'₀-₉-]*" + r")((?:\." + COMP + r")*)")
 
     def resolve(v, path):
@@ -96,9 +110,7 @@ def turn_text(text, env, names, goal, notes):
         parts = [p for p in path.split(".") if p]
         while parts and parts[0] == "before":
             parts = parts[1:]
-            place = names.places[place][1]
-            if place is None:
-                raise Bad("before the start")
+            place = names.places[place][1] or place
         return place, parts
 
     def parameters(callee, rest):
@@ -115,18 +127,36 @@ def turn_text(text, env, names, goal, notes):
 
     def step(place, parts):
         p = names.places[place]
-        first = parts[0]
+        first = re.sub(r"_lem$", "", parts[0])
         parts = [{"well-formed": "well_formed", "type-inv": "type_inv"}.get(x, x) for x in parts]
-        arm = names.arms.get(place)
-        for field, of, fields in arm[2] if arm else []:
-            if alike(of) == alike(first) and fields and parts[1 : 1 + len(fields)] == fields:
-                return "c." + ".".join([arm[0], field] + parts[1 + len(fields) :])
-        for field, of, fields in arm[2] if arm else []:
-            if alike(of) == alike(first) and not fields:
-                return "c." + ".".join([arm[0], field] + parts[1:])
-        if place == "Start" or first in ("args", "requires", "ranges", "lifetimes", "well_formed", "well-formed"):
+        if first == "args" and len(parts) > 1 and re.fullmatch(r"t\d+", parts[1]) and len(names.own) >= int(parts[1][1:]):
+            parts[1] = names.own[int(parts[1][1:]) - 1]
+        if first in ("args", "requires", "ranges", "lifetimes", "well_formed", "well-formed"):
+            if first == "args" and len(parts) > 1:
+                parts[1] = parts[1].replace("-", "_")
             return "c." + ".".join(parts)
-        if alike(first) not in (alike(p[2][0]), alike(p[2][1])) and alike(re.sub(r"_lem$", "", first)) != alike(p[2][0]):
+        # the steps on the way to where the goal is asked, the last first: a step may have come between since
+        way = [root]
+        while names.places[way[-1]][1]:
+            way.append(names.places[way[-1]][1])
+        stem = lambda s: re.sub(r"\d+$", "", alike(s))
+        if stem(first) != stem(p[2][0]):
+            at = [q for q in way if alike(names.places[q][2][0]) == alike(first)]
+            if at:
+                place, p = at[0], names.places[at[0]]
+        first = p[2][0] if stem(first) == stem(p[2][0]) else first
+        for q in way:
+            arm = names.arms.get(q)
+            for field, of, fields in arm[2] if arm else []:
+                if alike(of) == alike(first) and fields and parts[1 : 1 + len(fields)] == fields:
+                    return "c." + ".".join([arm[0], field] + parts[1 + len(fields) :])
+            for field, of, fields in arm[2] if arm else []:
+                if alike(of) == alike(first) and not fields:
+                    return "c." + ".".join([arm[0], field] + parts[1:])
+        if place == "Start":
+            return "c." + ".".join(parts)
+        first = p[2][0] if stem(first) == stem(p[2][0]) else first
+        if alike(first) not in (alike(p[2][0]), alike(p[2][1])):
             notes.append(f"{goal}: {first} is no step of {place} ({p[2]})")
             return "c.FIX-" + ".".join(parts)
         path = "c." + ".".join([p[2][1]] + parameters(p[3], parts[1:]))
@@ -134,6 +164,8 @@ def turn_text(text, env, names, goal, notes):
             return "NOT " + path
         return path
 
+    steps, arguments, loops = {}, set(), set()
+    kept = any("kept" in l[1] for l in names.loops)
     out, pos = [], 0
     let = re.compile(r"let ([A-Za-z_][\w'₀-₉]*) = ([A-Za-z_][\w'₀-₉]*)((?:\." + COMP + r")*) in\s*")
     while pos < len(text):
@@ -144,6 +176,14 @@ def turn_text(text, env, names, goal, notes):
                 env[m.group(1)] = place
                 pos = m.end()
                 continue
+            if parts[0] not in ("args", "requires", "ranges") and any(a and any(alike(of) == alike(re.sub(r"_lem$", "", parts[0])) for _, of, _ in a[2]) for a in names.arms.values()):
+                steps[m.group(1)] = (place, parts)
+                pos = m.end()
+                continue
+            if parts[-1] == "args":
+                arguments.add(m.group(1))
+            if parts[0] == "loop" or parts[0].startswith("loop") and len(parts) == 1:
+                loops.add(m.group(1))
             if len(parts) == 1 and names.places[place][3]:
                 calls[m.group(1)] = names.places[place][3]
             env.pop(m.group(1), None)
@@ -157,6 +197,8 @@ def turn_text(text, env, names, goal, notes):
             if v in env:
                 place, parts = resolve(v, path)
                 if parts:
+                    if kept and len(parts) == 2 and parts[0].startswith("loop") and parts[1] == "auto":
+                        parts = [parts[0], "kept"]
                     out.append(step(place, parts))
                 elif goal.startswith("helper:"):
                     if goal == "helper:" + place:
@@ -166,6 +208,17 @@ def turn_text(text, env, names, goal, notes):
                         out.append(f"(FIX-{names.new_place[place]})")
                 else:
                     out.append(f"(goal.at.{goal} c).{names.new_place[place]}")
+            elif v in steps:
+                place, parts = steps[v]
+                out.append(step(place, parts + [x for x in path.split(".") if x]))
+            elif v in arguments and re.match(r"\.t\d+(?!\w)", path) and len(names.own) >= int(re.match(r"\.t(\d+)", path).group(1)):
+                n = re.match(r"\.t(\d+)", path)
+                out.append(v + "." + names.own[int(n.group(1)) - 1] + path[n.end() :])
+            elif v in arguments and "-" in path:
+                ps = [x for x in path.split(".") if x]
+                out.append(".".join([v, ps[0].replace("-", "_")] + ps[1:]))
+            elif v in loops and kept and re.match(r"\.auto(?![\w.])", path):
+                out.append(v + ".kept" + path[5:])
             elif v in calls:
                 out.append(".".join([v] + parameters(calls[v], [x for x in path.split(".") if x])))
             else:
@@ -175,6 +228,7 @@ def turn_text(text, env, names, goal, notes):
         out.append(text[pos])
         pos += 1
     text = re.sub(r"\(?not[-_](?:true|false) \S+ NOT (c\.[^\s(),]+)", lambda m: m.group(1) if not m.group(0).startswith("(") else "(" + m.group(1), "".join(out))
+    text = re.sub(r"(?<=\brw )NOT |(?<=\brw \()NOT |(?<=, )NOT (?=c\.[^\s(),]+\)$)", "", text)
     return re.sub(r"NOT (c\.[^\s(),]+)", r"(ap not \1)", text)
 
 
@@ -231,6 +285,39 @@ def joins(text, ctors):
         pos = ends[2][1]
 
 
+PATH = r"[^\W\d][\w'₀-₉-]*(?:\." + COMP + ")*"
+
+
+def expand(text, macros):
+    """The text with calls of an abbreviation over a place, or of another answer, written out."""
+    for _ in range(12):
+        hit = None
+        for name, (var, body) in macros.items():
+            m = re.search(r"(?<![\w.'₀-₉-])" + re.escape(name) + r"(?![\w'₀-₉:-])\s+(?=[\w(])", text)
+            if m and not re.match(r"\s*[:=]", text[m.end() - 1 :]):
+                hit = (m, var, body)
+                break
+        if not hit:
+            return text
+        m, var, body = hit
+        e = argument(text, m.end())
+        arg = text[m.end() : e].strip()
+        if re.fullmatch(r"\(" + PATH + r"\)", arg):
+            arg = arg[1:-1]
+        if not re.fullmatch(PATH, arg):
+            inner = expand(arg, macros)
+            if inner == arg:
+                return text
+            text = text[: m.end()] + inner + text[e:]
+            continue
+        it = re.sub(r"(?<![\w.'₀-₉-])" + re.escape(var) + r"(?![\w'₀-₉-])", arg, body)
+        inside = m.start() > 0 and text[m.start() - 1] == "(" and text[e : e + 1] == ")"
+        it = it if inside or re.fullmatch(PATH, it) else "(" + it + ")"
+        text = text[: m.start()] + it + text[e:]
+        text = re.sub(r"(?<![\w'₀-₉-])\((" + PATH + r")\)", r"\1", text)
+    return text
+
+
 def used(uses, text):
     """The `use` lines of which the text needs something, with what it needs."""
     words = set(re.findall(r"[^\s(){}.;,\[\]]+", text))
@@ -265,11 +352,54 @@ def turn(crate, folder, module, d):
         text = f.read()
     head, uses, decls = parse(text)
     names = Names(d)
+    names.own = parameters_of(os.path.dirname(os.path.dirname(path)).split("/proofs")[0], module)
     notes = []
     prefix = f"Rattle.{crate}.proofs.{module}"
     uses = [u for u in uses if not re.search(r"\.(Statement\.\{statement\}|Tie as tie)$", u)]
     inv, ans = [], []
     imported = set()
+    macros = {}
+    for x in decls:
+        if len(x.body) != 1 or "statement M" in x.sig:
+            continue
+        m = re.match(re.escape(x.name) + r"\s+([^\W\d][\w'₀-₉]*)(?: κs)?\s=\s+(.*)$", x.body[0], re.S)
+        if not m:
+            continue
+        over = re.match(r"abbrev .*:\s*(?:\(\w+ : )?tie\.\S+", x.sig)
+        cited = re.search(r":\s*tie\.Need-", x.sig) and any(
+            y is not x and "tie.spec" not in " ".join(y.body) and re.search(r"(?<![\w.'-])" + re.escape(x.name) + r"(?![\w'-])\s+[\w(]", " ".join(y.body)) for y in decls
+        )
+        if over or cited:
+            macros[x.name] = (m.group(1), m.group(2).strip())
+            x.macro = bool(over)
+    for x in decls:
+        if macros and "statement M" not in x.sig and not x.macro:
+            h = re.match(r"(.*?\s=)(\s+.*)$", x.sig, re.S)
+            x.sig = expand(x.sig, macros)
+            out = []
+            for b in x.body:
+                k = re.match(r"(.*?\s=)(\s+.*)$", b, re.S)
+                out.append(k.group(1) + expand(k.group(2), {a: v for a, v in macros.items() if a != x.name}) if k else b)
+            x.body = out
+    decls = [x for x in decls if not x.macro]
+    over = {}
+    for x in decls:
+        m = re.match(re.escape(x.name) + r" : \((\w+) : tie\.[A-Za-z]\S*[^)]*\)\s*→\s*(.*)$", x.sig, re.S)
+        k = re.match(re.escape(x.name) + r"\s+(\w+)\s=\s+(.*)$", x.body[0], re.S) if len(x.body) == 1 else None
+        if m and k and not re.search(r"tie\.Need-", x.sig):
+            said = re.sub(r"(?<![\w.'-])" + m.group(1) + r"(?![\w'-])", k.group(1), m.group(2))
+            over[x.name] = (k.group(1), f"let it : {said} = {k.group(2).strip()} in it")
+    for x in decls:
+        if x.name in over:
+            others = {a: v for a, v in over.items() if a != x.name}
+            var = over[x.name][0]
+            for a in list(others):
+                # the same place is passed on as it is
+                if not re.search(r"(?<![\w.'-])" + re.escape(a) + r"\s+\(?" + var + r"\.", " ".join(x.body)):
+                    others.pop(a)
+            if others:
+                k = re.match(r"(.*?\s=)(\s+.*)$", x.body[0], re.S)
+                x.body = [k.group(1) + expand(k.group(2), others)]
     for x in decls:
         m = re.search(r":\s*tie\.(invariant|decreases)-(\S+)$", x.sig)
         if m:
@@ -352,6 +482,11 @@ def turn(crate, folder, module, d):
         inv.insert(0, "\n".join(x.comment + [sig] + ([x.unfolding] if x.unfolding else []) + x.body))
         uses.append(f"use {prefix}.Invariants.{{{x.name}}}")
         bodies += text_of
+    for x in decls:
+        m = re.search(r"\((\w+) : tie\.([A-Za-z][\w-]*)[^)]*\)", x.sig)
+        if m and names.place(m.group(2)):
+            to = names.new_place[names.place(m.group(2))]
+            ans = [re.sub(r"(?<![\w.'-])(" + re.escape(x.name) + r" \(goal\.at\.\S+ c\)\.)[^\s(),;{}\[\]]+", lambda n: n.group(1) + to, a) for a in ans]
     real = [a for a in ans if re.search(r"(?m)^pub \S+ : goal\.", a)]
     if not real:
         ans = []

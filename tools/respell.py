@@ -17,7 +17,7 @@ import sys
 
 # A name, with its dashes: a name of antt's may have them.
 NAME = r"[A-Za-z_][A-Za-z0-9_'′₀-₉]*(?:-[A-Za-z0-9_'′₀-₉]+)*"
-ANTT = re.compile(r'"(?:[^"\\]|\\.)*"|' + r"(?<![A-Za-z0-9_'′₀-₉])" + NAME)
+ANTT = re.compile(r'--[^\n]*|"(?:[^"\\\n]|\\.)*"|' + r"(?<![A-Za-z0-9_'′₀-₉])" + NAME)
 RUST = re.compile(r'//[^\n]*|b?"(?:[^"\\]|\\.)*"|b?\'(?:[^\'\\]|\\.)+?\'|(?<![A-Za-z0-9_])0[xX][0-9A-Fa-f_]+|(?<![A-Za-z0-9_])' + NAME)
 # Names that the rule would spell badly (none so far).
 OWN = {}
@@ -48,8 +48,15 @@ def spelled(name):
     return "-".join(snake(p) for p in name.replace("′", "'").split("-"))
 
 
+COMMENT = re.compile(r"(?<![A-Za-z0-9_'′₀-₉\"\\])" + NAME + r"(?!\")")
+
+
 def in_antt(text):
-    text = re.sub(ANTT, lambda m: spelled(m.group(0)), text)
+    def one(m):
+        w = m.group(0)
+        return re.sub(COMMENT, lambda n: spelled(n.group(0)), w) if w.startswith("--") else spelled(w)
+
+    text = re.sub(ANTT, one, text)
     return re.sub(r"(Rattle\.\w+\.(?:specs|proofs)\.)internal\b", r"\1Internal", text)
 
 
@@ -111,12 +118,15 @@ def look():
 def main(argv):
     if argv == ["--look"]:
         return look()
+    # the lemmas get their names in the first run alone: after it their functions have the names that they had
+    with open("crates/refusal/specs/Refusal.antt", encoding="utf-8") as f:
+        first = "noRoom" in f.read()
     for path, turn in list(files()):
         with open(path, encoding="utf-8", newline="") as f:
             old = f.read()
         new = old
         crate, folder = path.split("/")[1:3]
-        if folder == "proofs":
+        if first and folder == "proofs":
             for lemma in LEMMAS.get(crate, []):
                 new = re.sub(r"(?<![\w.'-])" + lemma + r"(?![\w'-])", lemma + "_lem", new)
         new = turn(new)

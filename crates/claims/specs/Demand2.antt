@@ -31,7 +31,7 @@ use Rattle.claims.specs.Sections.{DesTokenOfTheSection, DesSubstituteOfTheSectio
 pub record Demand2 : Type 0 where
   -- FRAMING, both ways
   -- "Over lists of writable events with no two runs adjacent, reading what was written gives the list;
-  pub eventsReadBack : Telnet.ReadsBack
+  pub events_read_back : Telnet.ReadsBack
   -- writing what was read without refusal gives the bytes."
   pub bytes_written_back : Telnet.WritesBack
   -- And the writer refuses nothing of what was read.

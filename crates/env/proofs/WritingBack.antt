@@ -122,19 +122,19 @@ names-write : (number k : ℕ) (fs : List Field) → Writes fs (names number k f
 unfolding names whole named written_variables
 names-write number k [] = (tt, refl)
 names-write number k (value_field t ∷ fs) = tt
-names-write number k (name_field kind broken ∷ value_field u ∷ fs) = writes-limited k _ (fault _) tt
-names-write number k (name_field kind (text []) ∷ value_field u ∷ fs) = writes-limited k _ (fault _) tt
-names-write number k (name_field kind (text (b ∷ bs)) ∷ value_field broken ∷ fs) = writes-limited k _ (fault _) tt
+names-write number k (name_field kind broken ∷ value_field u ∷ fs) = writes-limited k (name_field kind broken ∷ value_field u ∷ fs) (fault _) tt
+names-write number k (name_field kind (text []) ∷ value_field u ∷ fs) = writes-limited k (name_field kind (text []) ∷ value_field u ∷ fs) (fault _) tt
+names-write number k (name_field kind (text (b ∷ bs)) ∷ value_field broken ∷ fs) = writes-limited k (name_field kind (text (b ∷ bs)) ∷ value_field broken ∷ fs) (fault _) tt
 names-write number k (name_field kind (text (b ∷ bs)) ∷ value_field (text v) ∷ fs) =
-    writes-limited k _ _ (writes-defined kind (b ∷ bs) v fs _ (names-write _ (suc k) fs))
-names-write number k (name_field kind broken ∷ []) = writes-limited k _ (fault _) tt
-names-write number k (name_field kind (text []) ∷ []) = writes-limited k _ (fault _) tt
+    writes-limited k (name_field kind (text (b ∷ bs)) ∷ value_field (text v) ∷ fs) _ (writes-defined kind (b ∷ bs) v fs _ (names-write _ (suc k) fs))
+names-write number k (name_field kind broken ∷ []) = writes-limited k (name_field kind broken ∷ []) (fault _) tt
+names-write number k (name_field kind (text []) ∷ []) = writes-limited k (name_field kind (text []) ∷ []) (fault _) tt
 names-write number k (name_field kind (text (b ∷ bs)) ∷ []) =
-    writes-limited k _ _ (writes-undefined kind (b ∷ bs) [] (variables []) (tt, refl))
-names-write number k (name_field kind broken ∷ name_field kind₂ u ∷ fs) = writes-limited k _ (fault _) tt
-names-write number k (name_field kind (text []) ∷ name_field kind₂ u ∷ fs) = writes-limited k _ (fault _) tt
+    writes-limited k (name_field kind (text (b ∷ bs)) ∷ []) _ (writes-undefined kind (b ∷ bs) [] (variables []) (tt, refl))
+names-write number k (name_field kind broken ∷ name_field kind₂ u ∷ fs) = writes-limited k (name_field kind broken ∷ name_field kind₂ u ∷ fs) (fault _) tt
+names-write number k (name_field kind (text []) ∷ name_field kind₂ u ∷ fs) = writes-limited k (name_field kind (text []) ∷ name_field kind₂ u ∷ fs) (fault _) tt
 names-write number k (name_field kind (text (b ∷ bs)) ∷ name_field kind₂ u ∷ fs) =
-    writes-limited k _ _ (writes-undefined kind (b ∷ bs) (name_field kind₂ u ∷ fs) _ (names-write _ (suc k) (name_field kind₂ u ∷ fs)))
+    writes-limited k (name_field kind (text (b ∷ bs)) ∷ name_field kind₂ u ∷ fs) _ (writes-undefined kind (b ∷ bs) (name_field kind₂ u ∷ fs) _ (names-write _ (suc k) (name_field kind₂ u ∷ fs)))
 
 -- and so of a row, of the bytes that it was read from, and of a payload
 abbrev RowWrites : Row → Found → Type 0

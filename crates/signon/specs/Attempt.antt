@@ -64,9 +64,9 @@ unfoldable pub is_clear_password : Profile → (name server_seed client_seed off
 is_clear_password p name server_seed client_seed offered = is_clear client_seed && gives_clear (stored_sha p) name offered
 
 -- "Seed of 8 other bytes: an 8-byte value is the DES substitute and DES is allowed,
-unfoldable pub isDesSubstitute : Profile → (name serverSeed clientSeed offered : List ℕ) → Bool
-isDesSubstitute p name serverSeed clientSeed offered =
-    not (isClear clientSeed) && (desAllowed p && givesDes (storedDes p) name serverSeed clientSeed offered)
+unfoldable pub is_des_substitute : Profile → (name server_seed client_seed offered : List ℕ) → Bool
+is_des_substitute p name server_seed client_seed offered =
+    not (is_clear client_seed) && (des_allowed p && gives_des (stored_des p) name server_seed client_seed offered)
 
 -- or a 20-byte value is the SHA-1 substitute."
 unfoldable pub is_sha_substitute : Profile → (name server_seed client_seed offered : List ℕ) → Bool

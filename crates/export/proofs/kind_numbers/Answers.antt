@@ -11,7 +11,7 @@ pub returns-in-Command : goal.returns-in-Command
 returns-in-Command c = rw c.in-Command.is
 
 pub returns-in-Negotiation : goal.returns-in-Negotiation
-returns-in-Negotiation c = rw c.in-Negotiation.is (ap (λ (v : ℕ). three 3 v c.in-Negotiation.option) c.FIX-code_of_lem.ensures)
+returns-in-Negotiation c = rw c.in-Negotiation.is (ap (λ (v : ℕ). three 3 v c.in-Negotiation.option) c.code_of.ensures)
 
 pub returns-in-Subnegotiation : goal.returns-in-Subnegotiation
 returns-in-Subnegotiation c = rw c.in-Subnegotiation.is

@@ -6,7 +6,6 @@ use mathlib.Core.List.{List, []}
 use Prim.Native.Nat.{ℕ, ◌+◌, ◌<◌}
 use native.Mathlib.Numerals.{add-one}
 use native.Mathlib.Omega.{arith}
-use borrow.Author.Tests.{not-true, not-false}
 use lib.ListN.{length, get_or, drop, length-map, drop_of_length-le}
 use lib.Seq.{drop-cons}
 use Rattle.names.specs.Range.{every}
@@ -30,7 +29,7 @@ returns-then-not-is_name_byte c =
     let l = c.loop-i in
     let x = c.args.text.now in
     let bad : is_name_byte (raised_byte (get_or x l.i 0)) ≡ false =
-    sym (ap is_name_byte c.raise.ensures) ∙ sym c.is_name_byte.ensures ∙ not-true _ c.if-not-is_name_byte.true in
+    sym (ap is_name_byte c.raise.ensures) ∙ sym c.is_name_byte.ensures ∙ c.if-not-is_name_byte.true in
     sym (sym l.invariant.1 ∙ next x l.i (omega arith) ∙ rw bad)
 
 pub loop-i-preserved : goal.loop-i-preserved
@@ -38,7 +37,7 @@ loop-i-preserved c =
     let l = c.loop-i in
     let x = c.args.text.now in
     let good : is_name_byte (raised_byte (get_or x l.i 0)) ≡ true =
-    sym (ap is_name_byte c.raise.ensures) ∙ sym c.is_name_byte.ensures ∙ not-false _ c.if-not-is_name_byte.false in
+    sym (ap is_name_byte c.raise.ensures) ∙ sym c.is_name_byte.ensures ∙ c.if-not-is_name_byte.false in
     (omega arith, sym (next x l.i (omega arith) ∙ rw good) ∙ l.invariant.1)
 
 pub returns : goal.returns

@@ -62,19 +62,19 @@ pub returns-in_default : goal.returns-in_default
 unfolding ebcdic sign
 returns-in_default c =
     let b = c.args.b in
-    let off = c.in_default-1.rest in
+    let off = c.in_default.in_default-own.rest in
     no_sign b off.0.0.0.1 off.0.0.1 off.0.1 off.1 ∙ agree sign ebcdic 0 0x30 refl b (omega arith) (omega arith)
 
 pub returns-in_default-2 : goal.returns-in_default-2
 unfolding ebcdic sign
 returns-in_default-2 c =
     let b = c.args.b in
-    let off = c.in_default-1.rest in
+    let off = c.in_default.in_default-own.rest in
     no_sign b off.0.0.0.1 off.0.0.1 off.0.1 off.1 ∙ agree sign ebcdic 0x3A 7 refl b (omega arith) (omega arith)
 
 pub returns-in_default-3 : goal.returns-in_default-3
 unfolding ebcdic sign
 returns-in_default-3 c =
     let b = c.args.b in
-    let off = c.in_default-1.rest in
+    let off = c.in_default.in_default-own.rest in
     no_sign b off.0.0.0.1 off.0.0.1 off.0.1 off.1 ∙ agree sign ebcdic 0x5B 165 refl b (omega arith) (omega arith)

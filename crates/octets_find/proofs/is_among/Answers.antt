@@ -1,7 +1,6 @@
 -- `octets_find::is_among` meets its contract. The loop's invariant: the byte was found exactly when fewer than j bytes
 -- come before it. The measure is `8 - j`. Assumes nothing.
 use mathlib.Core.Path.{◌≡◌, sym, ◌∙◌}
-use mathlib.Core.Logic.{⊎_elim}
 use Prim.Native.Nat.{◌+◌, ◌<◌, zero-le}
 use native.Mathlib.Omega.{arith}
 use borrow.Author.Tests.{lt-ltb, le-ltb}
@@ -9,6 +8,7 @@ use lib.ListN.{length, drop}
 use Rattle.octets.proofs.Order.{ltb_iff}
 use Rattle.octets.specs.Find.{up_to}
 use Rattle.octets_find.proofs.Before.{found, not_found}
+use Rattle.octets_find.proofs.is_among.Goals.{else-text-at, then-text-at}
 use Rattle.octets_find.proofs.is_among.Goals as goal
 
 pub loop-j-init : goal.loop-j-init
@@ -25,10 +25,11 @@ loop-j-preserved c =
     let n = length (up_to s.b (drop s.at t)) in
     let h : p < length t = omega arith in (
       omega arith,
-      ⊎_elim (λ w. w.1 ∙ sym (lt-ltb n (l.j + 1) (omega (arith, found s.b t s.at p (omega arith) h w.0.taken))))
-          (λ w. let d = not_found s.b t s.at p (omega arith) h w.0.left in
-          w.1 ∙ l.invariant.1 ∙ ltb_iff n l.j n (l.j + 1) (λ g. omega arith) (λ g. omega arith))
-          c.if-text-at.branch,
+      elim c.if-text-at.branch [
+        | then-text-at w ↦ w.found-is ∙ sym (lt-ltb n (l.j + 1) (omega (arith, found s.b t s.at p (omega arith) h w.if-text-at.true)))
+        | else-text-at w ↦ let d = not_found s.b t s.at p (omega arith) h w.if-text-at.false in
+            w.found-is ∙ l.invariant.1 ∙ ltb_iff n l.j n (l.j + 1) (λ g. omega arith) (λ g. omega arith)
+      ],
     )
 
 pub returns : goal.returns

@@ -2,11 +2,11 @@
 -- bytes have no mark. The measure is `8 - j`. Assumes nothing.
 use mathlib.Core.Path.{◌≡◌, sym, ◌∙◌}
 use mathlib.Core.Bool.{true, false}
-use mathlib.Core.Logic.{⊎_elim}
 use Prim.Native.Nat.{ℕ}
 use native.Mathlib.Nat.{add-zero}
 use native.Mathlib.Omega.{arith}
 use Rattle.octets_marked.proofs.Turn.{plain_more}
+use Rattle.octets_marked.proofs.eight_plain.Goals.{else-lies, then-lies}
 use Rattle.octets_marked.proofs.eight_plain.Goals as goal
 
 pub loop-j-init : goal.loop-j-init
@@ -18,9 +18,11 @@ loop-j-preserved c =
     let a = c.args in
     let s = a.bytes.now in (
       omega arith,
-      λ e mark. ⊎_elim (λ w. let z : true ≡ false = sym e ∙ w.1 in absurd (let d : ◌≡◌ {A = ℕ} 0 1 = cc in omega arith))
-          (λ w. plain_more mark a.low a.high s a.at l.j (omega arith) (sym c.lies.ensures ∙ w.0.left)
-          (l.invariant.1 (sym w.1 ∙ e) mark)) c.if-lies.branch,
+      λ e mark. elim c.if-lies.branch [
+        | then-lies w ↦ let z : true ≡ false = sym e ∙ w.plain-is in absurd (let d : ◌≡◌ {A = ℕ} 0 1 = cc in omega arith)
+        | else-lies w ↦ plain_more mark a.low a.high s a.at l.j (omega arith) (sym c.lies.ensures ∙ w.if-lies.false)
+            (l.invariant.1 (sym w.plain-is ∙ e) mark)
+      ],
     )
 
 pub returns : goal.returns

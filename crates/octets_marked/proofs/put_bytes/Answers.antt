@@ -25,7 +25,7 @@ loop-i-preserved c =
     let one = marked a.mark a.low a.high (get_or s l.i 0 ∷ []) in
     let piece = marked-at a.mark a.low a.high s l.i (omega arith) in
     let put = piece-put a.mark a.low a.high s l.i 1 one piece l.out l.k (omega (arith, c.requires.2, l.invariant.1, l.invariant.2.place)) p.ensures in
-    (omega arith, p.auto.1.1.1.1.0 ∙ l.invariant.1, then-further l.invariant.2 put)
+    (omega arith, p.auto.out ∙ l.invariant.1, then-further l.invariant.2 put)
 
 pub returns : goal.returns
 returns c =

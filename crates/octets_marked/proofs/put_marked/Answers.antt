@@ -37,7 +37,7 @@ pub loop-i-preserved : goal.loop-i-preserved
 loop-i-preserved c =
     let p = c.put_eight-k in
     let l = c.loop-i in
-    (omega arith, p.auto.1.1.1.1.1.0 ∙ l.invariant.1, then-further l.invariant.2 p.ensures)
+    (omega arith, p.auto.out ∙ l.invariant.1, then-further l.invariant.2 p.ensures)
 
 pub put_bytes-requires : goal.put_bytes-requires
 put_bytes-requires c =

@@ -27,4 +27,4 @@ returns-in-39 c = rw c.in-39.is
 
 pub returns-in_default : goal.returns-in_default
 unfolding carried
-returns-in_default c = sym (choose-none c.args.option c.in_default.is true true true true true false)
+returns-in_default c = sym (choose-none c.args.option c.in_default.in_default-own.rest true true true true true false)

@@ -20,4 +20,4 @@ returns-in-1 c = rw c.in-1.is
 pub returns-in_default : goal.returns-in_default
 returns-in_default c =
     let a = c.args in
-    ap (λ s. record { side = a.side; number = a.number; sends = s }) (off-sent a.sends c.in_default.is.0.1 c.in_default.is.1)
+    ap (λ s. record { side = a.side; number = a.number; sends = s }) (off-sent a.sends c.in_default.in_default-own.rest.0.1 c.in_default.in_default-own.rest.1)

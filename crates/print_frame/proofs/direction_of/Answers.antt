@@ -13,4 +13,4 @@ returns-in-4353 c = rw c.in-4353.is
 
 pub returns-in_default : goal.returns-in_default
 unfolding goes direction_of
-returns-in_default c = let r = c.in_default.is in rw (ne_eqb _ _ r.0.1, ne_eqb _ _ r.1)
+returns-in_default c = let r = c.in_default.in_default-own.rest in rw (ne_eqb _ _ r.0.1, ne_eqb _ _ r.1)

@@ -9,4 +9,4 @@ returns-in-1 c = rw c.in-1.is
 
 pub returns-in_default : goal.returns-in_default
 unfolding operation_of
-returns-in_default c = rw (ne_eqb _ _ c.in_default.is.1)
+returns-in_default c = rw (ne_eqb _ _ c.in_default.in_default-own.rest.1)

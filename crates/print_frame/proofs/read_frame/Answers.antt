@@ -6,7 +6,7 @@ use mathlib.Core.List.{List}
 use Prim.Native.Nat.{ℕ, ◌≤◌}
 use native.Mathlib.Omega.{arith}
 use lib.ListN.{length}
-use borrow.Author.Tests.{lt-ltb, le-ltb, eq-eqb, ne_eqb, not-true, not-false}
+use borrow.Author.Tests.{lt-ltb, le-ltb, eq-eqb, ne_eqb}
 use Rattle.octets.specs.Choice.{if◌then◌else◌}
 use Rattle.refusal.specs.Refusal.{bad_data_flow}
 use Rattle.print_frame.specs.declared.FrameAnswer.TheVariants.{Refused}
@@ -43,12 +43,12 @@ pub returns-then-not-is_flow : goal.returns-then-not-is_flow
 returns-then-not-is_flow c =
     let f = c.args.frame.now in
     let number = c.number_at-3.ensures in
-    let flow = ap is_flow (sym number) ∙ sym c.is_flow.ensures ∙ not-true _ c.if-not-is_flow.true in
+    let flow = ap is_flow (sym number) ∙ sym c.is_flow.ensures ∙ c.if-not-is_flow.true in
     sym (by-flow f false (omega arith) (omega arith) (omega arith) flow)
 
 pub returns : goal.returns
 returns c =
     let f = c.args.frame.now in
     let number = c.number_at-3.ensures in
-    let flow = ap is_flow (sym number) ∙ sym c.is_flow.ensures ∙ not-false _ c.if-not-is_flow.false in
+    let flow = ap is_flow (sym number) ∙ sym c.is_flow.ensures ∙ c.if-not-is_flow.false in
     c.read_header.ensures ∙ sym (by-flow f true (omega arith) (omega arith) (omega arith) flow)

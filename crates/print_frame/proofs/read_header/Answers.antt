@@ -2,7 +2,7 @@
 -- nothing.
 use mathlib.Core.Path.{sym, ◌∙◌}
 use native.Mathlib.Omega.{arith}
-use borrow.Author.Tests.{lt-ltb, le-ltb, not-true, not-false}
+use borrow.Author.Tests.{lt-ltb, le-ltb}
 use Rattle.print_frame.specs.Frame.{structure_length, header_length, data_place, header_of}
 use Rattle.print_frame.proofs.read_header.Goals as goal
 
@@ -36,7 +36,7 @@ unfolding header_of
 returns-then-not-is_operation c =
     let f = c.args.frame.now in
     let reserved = sym c.is_reserved.ensures ∙ c.if-is_reserved.false in
-    let operation = sym c.is_operation.ensures ∙ not-true _ c.if-not-is_operation.true in
+    let operation = sym c.is_operation.ensures ∙ c.if-not-is_operation.true in
     rw (le-ltb (header_length f) 4 (omega arith), le-ltb (structure_length f) (data_place f) (omega arith), reserved, operation)
 
 pub returns : goal.returns
@@ -44,6 +44,6 @@ unfolding header_of
 returns c =
     let f = c.args.frame.now in
     let reserved = sym c.is_reserved.ensures ∙ c.if-is_reserved.false in
-    let operation = sym c.is_operation.ensures ∙ not-false _ c.if-not-is_operation.false in
+    let operation = sym c.is_operation.ensures ∙ c.if-not-is_operation.false in
     let within = le-ltb (structure_length f) (data_place f) (omega arith) in
     rw (le-ltb (header_length f) 4 (omega arith), within, reserved, operation, c.fields.ensures)

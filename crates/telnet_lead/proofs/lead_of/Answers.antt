@@ -35,7 +35,7 @@ returns-in-254 c = rw c.in-254.is
 pub returns-in_default : goal.returns-in_default
 unfolding lead
 returns-in_default c =
-    let r = c.in_default.is in
+    let r = c.in_default.in_default-own.rest in
     let no = ne_eqb in
     rw (le-ltb c.args.c 239 (omega arith), no _ _ r.0.0.0.0.0.1, no _ _ r.0.0.0.0.1)
     (rw (no _ _ r.0.0.0.1, no _ _ r.0.0.1, no _ _ r.0.1, no _ _ r.1))

@@ -1,0 +1,9 @@
+-- `option_line::command_bytes` meets its contract. Assumes nothing.
+use mathlib.Core.Path.{refl}
+use Rattle.option_line.proofs.Sending.{command-filled}
+use Rattle.option_line.proofs.command_bytes.Goals as goal
+
+pub returns : goal.returns
+returns c =
+    let a = c.args in
+    command-filled a.verb a.option _ refl c.write.ensures

@@ -1,0 +1,20 @@
+-- `play_options::option_at` meets its contract: at each arm the tests of `option_at` are decided. Assumes nothing.
+use borrow.Author.Tests.{ne_eqb}
+use Rattle.play_options.proofs.option_at.Goals as goal
+
+pub returns-in-0 : goal.returns-in-0
+returns-in-0 c = rw c.in-0.is
+
+pub returns-in-1 : goal.returns-in-1
+returns-in-1 c = rw c.in-1.is
+
+pub returns-in-2 : goal.returns-in-2
+returns-in-2 c = rw c.in-2.is
+
+pub returns-in-3 : goal.returns-in-3
+returns-in-3 c = rw c.in-3.is
+
+pub returns-in_default : goal.returns-in_default
+returns-in_default c =
+    let no = ne_eqb in
+    rw (no _ _ c.in_default.in_default-own.rest.0.0.0.1, no _ _ c.in_default.in_default-own.rest.0.0.1, no _ _ c.in_default.in_default-own.rest.0.1, no _ _ c.in_default.in_default-own.rest.1)

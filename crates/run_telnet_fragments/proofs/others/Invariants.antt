@@ -1,0 +1,10 @@
+-- `run_telnet_fragments::others` is safe and ends. The measure is what is left of the room. Assumes nothing.
+use Prim.Native.Nat.{◌-◌}
+use lib.ListN.{length}
+use Rattle.run_telnet_fragments.proofs.others.Given as goal
+
+abbrev pub invariant-loop-i : goal.invariant-loop-i
+invariant-loop-i l = Unit {0}
+
+abbrev pub decreases-loop-i : goal.decreases-loop-i
+decreases-loop-i l = length l.room - l.i
