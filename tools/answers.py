@@ -184,8 +184,9 @@ def turn_text(text, env, names, goal, notes):
                 arguments.add(m.group(1))
             if parts[0] == "loop" or parts[0].startswith("loop") and len(parts) == 1:
                 loops.add(m.group(1))
-            if len(parts) == 1 and names.places[place][3]:
-                calls[m.group(1)] = names.places[place][3]
+            callees = [q[3] for q in names.places.values() if alike(q[2][0]) == alike(re.sub(r"_lem$", "", parts[0])) and q[3]]
+            if len(parts) == 1 and callees:
+                calls[m.group(1)] = callees[0]
             env.pop(m.group(1), None)
         elif text.startswith("let ", pos):
             n = re.compile(r"let ([A-Za-z_][\w'₀-₉]*)").match(text, pos)
@@ -438,7 +439,7 @@ def turn(crate, folder, module, d):
                 continue
             body = joins(turn_text(body.strip(), env, names, new, notes), imported)
             lead = "\n    " if "\n" in body or len(body) > 100 else " "
-            ans.append("\n".join(x.comment + [f"pub {new} : goal.{new}"] + ([x.unfolding] if x.unfolding else []) + [f"{new} c ={lead}{body}"]))
+            ans.append("\n".join(x.comment + [f"pub {new} : goal.{new}"] + ([x.unfolding] if x.unfolding else []) + [" ".join([new, "c"] + [v for v in args[1:] if v != "κs"]) + f" ={lead}{body}"]))
             continue
         if re.match(r"tie\.close", re.sub(r"^.*?=\s*", "", " ".join(x.body), flags=re.S).strip()) or "statement M" in x.sig:
             continue

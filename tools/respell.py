@@ -18,7 +18,7 @@ import sys
 # A name, with its dashes: a name of antt's may have them.
 NAME = r"[A-Za-z_][A-Za-z0-9_'′₀-₉]*(?:-[A-Za-z0-9_'′₀-₉]+)*"
 ANTT = re.compile(r'--[^\n]*|"(?:[^"\\\n]|\\.)*"|' + r"(?<![A-Za-z0-9_'′₀-₉])" + NAME)
-RUST = re.compile(r'//[^\n]*|b?"(?:[^"\\]|\\.)*"|b?\'(?:[^\'\\]|\\.)+?\'|(?<![A-Za-z0-9_])0[xX][0-9A-Fa-f_]+|(?<![A-Za-z0-9_])' + NAME)
+RUST = re.compile(r'//[^\n]*|b?"(?:[^"\\]|\\.)*"|b?\'(?:[^\'\\\n]|\\(?:x[0-9A-Fa-f]{2}|u\{[^}]*\}|.))\'|(?<![A-Za-z0-9_])0[xX][0-9A-Fa-f_]+|(?<![A-Za-z0-9_])' + NAME)
 # Names that the rule would spell badly (none so far).
 OWN = {}
 # A lemma that would now have its function's name, with the crate in whose proofs it is used.

@@ -24,7 +24,7 @@ use Rattle.env_delivery.specs.Promise.{delivery, delivered, read_into}
 use Rattle.env_list.specs.Lists.{listing}
 use Rattle.env_list.specs.Reading.{listed}
 use Rattle.env_list.proofs.Firsts.{begun, firsts-front}
-use Rattle.env_list.proofs.Walks.{either}
+use Rattle.env_list.proofs.Either.{either}
 
 -- the first records of variables, whatever numbers are after theirs, are all of them
 firsts-recorded : (vs : List Variable) (nums rest : List ℕ)

@@ -1,5 +1,4 @@
-pub mod Buffer
+pub mod Either
 pub mod Firsts
 pub mod Joined
 pub mod Meaning
-pub mod Walks

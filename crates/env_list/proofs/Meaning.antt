@@ -17,7 +17,7 @@ use Rattle.env.proofs.Records.{length-records}
 use Rattle.env_delivery.specs.declared.Answer.TheVariants.{Read, Refused}
 use Rattle.env_list.specs.Reading.{listed}
 use Rattle.env_list.specs.Theorems.{ListsTheVariables}
-use Rattle.env_list.proofs.Walks.{either}
+use Rattle.env_list.proofs.Either.{either}
 
 -- records of variables that are packed into a buffer mean those variables
 records-packed : (bytes : List ℕ) (vs : List Variable) → length (packed vs) ≤ length bytes

@@ -6,6 +6,7 @@
 use signon_text::{LIMIT, ROOM};
 
 const STDOUT_FILENO: i32 = 1;
+
 const STDERR_FILENO: i32 = 2;
 
 fn print(input: &[u8]) {

@@ -75,8 +75,7 @@ fn place_numbers(place: ValuePlace) -> TvValue
 
 // Reads a payload of NEW-ENVIRON. Names and values go back to back into `bytes`, and the records of their variables
 // into `numbers`; a variable without VALUE is undefined. Refused by 3, 20 to 25 and 4.
-#[unsafe(no_mangle)]
-pub extern "C" fn tv_env_read(payload: &[u8], bytes: &mut [u8], numbers: &mut [usize]) -> TvPayload
+pub fn tv_env_read(payload: &[u8], bytes: &mut [u8], numbers: &mut [usize]) -> TvPayload
     ensures { read_out result bytes.new numbers.new
         ≡ read_numbers (read_into payload.now bytes.old numbers.old) }
 {
@@ -85,13 +84,7 @@ pub extern "C" fn tv_env_read(payload: &[u8], bytes: &mut [u8], numbers: &mut [u
 
 // Writes a payload to the front of `out`: its first byte, and the variables that the records have over `bytes`, an
 // undefined one without VALUE. Refused by 20, 27, 21, 24, 25, 3 and 4.
-#[unsafe(no_mangle)]
-pub extern "C" fn tv_env_write(
-    first: u8,
-    bytes: &[u8],
-    numbers: &[usize],
-    out: &mut [u8],
-) -> TvWritten
+pub fn tv_env_write(first: u8, bytes: &[u8], numbers: &[usize], out: &mut [u8]) -> TvWritten
     ensures { outcome result out.new
         ≡ numbered written_numbers (write_into first bytes.now numbers.now out.old) }
 {
@@ -100,8 +93,7 @@ pub extern "C" fn tv_env_write(
 
 // The place of the value of the first variable of a kind and name that is defined. The place is the record's own:
 // records that `tv_env_read` set keep within `bytes`, others may not.
-#[unsafe(no_mangle)]
-pub extern "C" fn tv_env_value(bytes: &[u8], numbers: &[usize], kind: usize, name: &[u8]) -> TvValue
+pub fn tv_env_value(bytes: &[u8], numbers: &[usize], kind: usize, name: &[u8]) -> TvValue
     ensures { result ≡ place_numbers (place_of kind name.now bytes.now numbers.now) }
 {
     place_numbers(env_search::find(bytes, numbers, kind, name))

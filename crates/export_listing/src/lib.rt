@@ -13,8 +13,7 @@ ghost use Rattle.octets.specs.Lent.{outcome};
 use export::TvWritten;
 
 // The line of what is at a place, at the front of `out`: 67 bytes are always enough. Refused by 4.
-#[unsafe(no_mangle)]
-pub extern "C" fn tv_line(s: &[u8], at: usize, out: &mut [u8]) -> TvWritten
+pub fn tv_line(s: &[u8], at: usize, out: &mut [u8]) -> TvWritten
     ensures { outcome result out.new ≡ numbered written_numbers (written_into (line at (answer_text (look_at s.now at))) out.old) }
 {
     let answer = telnet_reader::look(s, at);
@@ -22,8 +21,7 @@ pub extern "C" fn tv_line(s: &[u8], at: usize, out: &mut [u8]) -> TvWritten
 }
 
 // The whole listing of a stream, at the front of `out`. Refused by 4.
-#[unsafe(no_mangle)]
-pub extern "C" fn tv_list(s: &[u8], out: &mut [u8]) -> TvWritten
+pub fn tv_list(s: &[u8], out: &mut [u8]) -> TvWritten
     ensures { outcome result out.new ≡ numbered written_numbers (written_into (listing s.now) out.old) }
 {
     export::written_numbers(telnet_listing::list(s, out))

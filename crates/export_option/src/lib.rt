@@ -203,8 +203,7 @@ pub fn states_named()
 {}
 
 // Every side off.
-#[unsafe(no_mangle)]
-pub extern "C" fn tv_sides_fresh() -> TvSides
+pub fn tv_sides_fresh() -> TvSides
     ensures { result ≡ sides_numbers all_off }
 {
     sides_numbers(Sides::fresh())
@@ -212,8 +211,7 @@ pub extern "C" fn tv_sides_fresh() -> TvSides
 
 // WILL, WONT, DO or DONT (251 to 254) was received, with its option byte; on is accepted or declined where that is
 // open. Refused by 6 where the code is no option command.
-#[unsafe(no_mangle)]
-pub extern "C" fn tv_sides_receive(sides: TvSides, code: u8, option: u8, accept: bool) -> TvAnswered
+pub fn tv_sides_receive(sides: TvSides, code: u8, option: u8, accept: bool) -> TvAnswered
     ensures { result ≡ receive_named sides (verb_named code) option accept }
 {
     match export::verb_named(code) {
@@ -231,8 +229,7 @@ pub extern "C" fn tv_sides_receive(sides: TvSides, code: u8, option: u8, accept:
 }
 
 // This end asks for our side or the other's to be on or off. Refused by 10, 11, 12 or 13.
-#[unsafe(no_mangle)]
-pub extern "C" fn tv_sides_request(sides: TvSides, ours: bool, option: u8, on: bool) -> TvAnswered
+pub fn tv_sides_request(sides: TvSides, ours: bool, option: u8, on: bool) -> TvAnswered
     ensures { result ≡ answered_numbers sides (requested (sides_named sides) (whose_named ours) option (command_named on)) }
 {
     let whose = whose_named(ours);
@@ -242,8 +239,7 @@ pub extern "C" fn tv_sides_request(sides: TvSides, ours: bool, option: u8, on: b
 
 // WILL, WONT, DO or DONT was received, and the answer goes on the line at a place. Refused by 5; by 6 where the code is
 // no option command; by 4 where the answer does not fit.
-#[unsafe(no_mangle)]
-pub extern "C" fn tv_option_receive(
+pub fn tv_option_receive(
     sides: TvSides,
     code: u8,
     option: u8,
@@ -277,8 +273,7 @@ pub extern "C" fn tv_option_receive(
 
 // This end asks for our side or the other's to be on or off, and the command goes on the line at a place. Refused by 5;
 // by 10, 11, 12 or 13; by 4.
-#[unsafe(no_mangle)]
-pub extern "C" fn tv_option_request(
+pub fn tv_option_request(
     sides: TvSides,
     ours: bool,
     option: u8,
@@ -300,8 +295,7 @@ pub extern "C" fn tv_option_request(
 
 // This end hears what is at a place of the other's line, and answers on its own line at a place if that is an
 // option command. Refused by 5 for either place; by 1, 2, 3 or 6 where it cannot be read; by 4.
-#[unsafe(no_mangle)]
-pub extern "C" fn tv_option_hear(
+pub fn tv_option_hear(
     sides: TvSides,
     heard: &[u8],
     from: usize,

@@ -66,16 +66,14 @@ fn token_of(bytes: &[u8]) -> [u8; 20]
 }
 
 // The DES token of a name and a password. Refused by 33 and 34.
-#[unsafe(no_mangle)]
-pub extern "C" fn tv_des_token(name: &[u8], password: &[u8]) -> TvBlock
+pub fn tv_des_token(name: &[u8], password: &[u8]) -> TvBlock
     ensures { result ≡ block_numbers (des_token name.now password.now) }
 {
     block_numbers(password_des::des_token(name, password))
 }
 
 // The SHA-1 token of a name and a password, at the front of `out`. Refused by 33, 34 and 4.
-#[unsafe(no_mangle)]
-pub extern "C" fn tv_sha_token(name: &[u8], password: &[u8], out: &mut [u8]) -> TvWritten
+pub fn tv_sha_token(name: &[u8], password: &[u8], out: &mut [u8]) -> TvWritten
     ensures { outcome result out.new ≡ hash_into (sha_token name.now password.now) out.old }
 {
     let hash = password_sha::sha_token(name, password);
@@ -84,13 +82,7 @@ pub extern "C" fn tv_sha_token(name: &[u8], password: &[u8], out: &mut [u8]) -> 
 }
 
 // The substitute that a client sends for a DES token. Refused by 33.
-#[unsafe(no_mangle)]
-pub extern "C" fn tv_des_substitute(
-    token: u64,
-    name: &[u8],
-    server_seed: u64,
-    client_seed: u64,
-) -> TvBlock
+pub fn tv_des_substitute(token: u64, name: &[u8], server_seed: u64, client_seed: u64) -> TvBlock
     ensures { result ≡ block_numbers (des_substitute token name.now server_seed client_seed) }
 {
     block_numbers(password_des::des_substitute(token, name, server_seed, client_seed))
@@ -98,8 +90,7 @@ pub extern "C" fn tv_des_substitute(
 
 // The substitute that a client sends for a SHA-1 token, at the front of `out`. Refused by 31 where the token has not
 // twenty bytes, and by 33 and 4.
-#[unsafe(no_mangle)]
-pub extern "C" fn tv_sha_substitute(
+pub fn tv_sha_substitute(
     token: &[u8],
     name: &[u8],
     server_seed: u64,

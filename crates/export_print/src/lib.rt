@@ -202,16 +202,14 @@ pub fn ledgers_named()
 {}
 
 // What a frame says. Refused by 40 to 45.
-#[unsafe(no_mangle)]
-pub extern "C" fn tv_read_frame(frame: &[u8]) -> TvFrame
+pub fn tv_read_frame(frame: &[u8]) -> TvFrame
     ensures { result ≡ frame_numbers (frame_of frame.now) }
 {
     frame_numbers(print_frame::read_frame(frame))
 }
 
 // A ledger that holds nothing.
-#[unsafe(no_mangle)]
-pub extern "C" fn tv_ledger_fresh() -> TvLedger
+pub fn tv_ledger_fresh() -> TvLedger
     ensures { result ≡ ledger_numbers fresh }
 {
     ledger_numbers(Ledger::fresh())
@@ -219,8 +217,7 @@ pub extern "C" fn tv_ledger_fresh() -> TvLedger
 
 // The ledger is given a frame from the line. A number above 1 reads as 0; a refusal hands the ledger back as it was
 // given. Refused by 40 to 45, 52 and 50.
-#[unsafe(no_mangle)]
-pub extern "C" fn tv_ledger_take(ledger: TvLedger, frame: &[u8]) -> TvTaken
+pub fn tv_ledger_take(ledger: TvLedger, frame: &[u8]) -> TvTaken
     ensures { result ≡ taken_numbers ledger (take_frame (ledger_named ledger) frame.now) }
 {
     taken_numbers(ledger, ledger_named(ledger).take_frame(frame))
@@ -228,8 +225,7 @@ pub extern "C" fn tv_ledger_take(ledger: TvLedger, frame: &[u8]) -> TvTaken
 
 // The device has printed what is held: the print complete record goes to the front of `out`, and the ledger is idle. A
 // number above 1 reads as 0; a refusal hands the ledger back as it was given. Refused by 51 and 4.
-#[unsafe(no_mangle)]
-pub extern "C" fn tv_ledger_complete(ledger: TvLedger, out: &mut [u8]) -> TvCompleted
+pub fn tv_ledger_complete(ledger: TvLedger, out: &mut [u8]) -> TvCompleted
     ensures { outcome result out.new ≡ numbered (completed_numbers ledger) (complete_into (ledger_named ledger) out.old) }
 {
     completed_numbers(ledger, ledger_named(ledger).complete(out))

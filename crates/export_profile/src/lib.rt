@@ -80,16 +80,14 @@ fn found_numbers(answer: Found) -> TvFound
 }
 
 // How many profiles a table has. Refused by 30, 31 and 32.
-#[unsafe(no_mangle)]
-pub extern "C" fn tv_table_check(table: &[u8]) -> TvTable
+pub fn tv_table_check(table: &[u8]) -> TvTable
     ensures { result ≡ table_numbers (checked (table_of table.now)) }
 {
     table_numbers(profile_table::check(table))
 }
 
 // The profile of a name, raised first. Refused as `tv_table_check`.
-#[unsafe(no_mangle)]
-pub extern "C" fn tv_table_find(table: &[u8], name: &[u8]) -> TvFound
+pub fn tv_table_find(table: &[u8], name: &[u8]) -> TvFound
     ensures { result ≡ found_numbers (found_in (raised name.now) (table_of table.now)) }
 {
     found_numbers(profile_table::find(table, name))
@@ -97,8 +95,7 @@ pub extern "C" fn tv_table_find(table: &[u8], name: &[u8]) -> TvFound
 
 // Writes the record of a name and a password, with its two marks, to the front of `out`: 42 bytes are always enough.
 // Refused by 33, 34 and 4.
-#[unsafe(no_mangle)]
-pub extern "C" fn tv_make_record(
+pub fn tv_make_record(
     name: &[u8],
     password: &[u8],
     enabled: bool,

@@ -145,16 +145,14 @@ pub fn readers_named()
 {}
 
 // A reader that has read nothing.
-#[unsafe(no_mangle)]
-pub extern "C" fn tv_reader_fresh() -> TvReader
+pub fn tv_reader_fresh() -> TvReader
     ensures { result ≡ reader_numbers fresh_reader }
 {
     reader_numbers(telnet_feed::fresh())
 }
 
 // A reader begun anew, whatever it was.
-#[unsafe(no_mangle)]
-pub extern "C" fn tv_reader_reset(reader: TvReader) -> TvReader
+pub fn tv_reader_reset(reader: TvReader) -> TvReader
     ensures { result ≡ reader_numbers fresh_reader }
 {
     reader_numbers(telnet_feed::reset(reader_named(reader)))
@@ -162,8 +160,7 @@ pub extern "C" fn tv_reader_reset(reader: TvReader) -> TvReader
 
 // Takes a fragment. The number 4 is a refusal, for room under 2,048 bytes; 2, 3 and 6 are none: the data before the
 // fault is given, and every later call answers that number and takes nothing.
-#[unsafe(no_mangle)]
-pub extern "C" fn tv_reader_feed(
+pub fn tv_reader_feed(
     reader: TvReader,
     kept: &mut [u8; PAYLOAD_LIMIT],
     fragment: &[u8],
@@ -179,8 +176,7 @@ pub extern "C" fn tv_reader_feed(
 }
 
 // The end of the stream: 0 where the reader is at rest, 1 where it waits for more, and the number of its fault.
-#[unsafe(no_mangle)]
-pub extern "C" fn tv_reader_close(reader: TvReader) -> u8
+pub fn tv_reader_close(reader: TvReader) -> u8
     ensures { ClosedByNumber reader result }
 {
     match telnet_feed::close(reader_named(reader)) {

@@ -69,8 +69,7 @@ pub fn verdicts_named()
 
 // The verdict on a payload of NEW-ENVIRON, by the server seed and the profile table. Refused by 35, 30 to 32, 3 and 20
 // to 25.
-#[unsafe(no_mangle)]
-pub extern "C" fn tv_verdict(server_seed: &[u8], table: &[u8], payload: &[u8]) -> TvVerdict
+pub fn tv_verdict(server_seed: &[u8], table: &[u8], payload: &[u8]) -> TvVerdict
     ensures { result ≡ answer_numbers (answer_of server_seed.now table.now payload.now) }
 {
     answer_numbers(signon_verdict::verdict(server_seed, table, payload))
@@ -125,8 +124,7 @@ pub fn reasons_numbered()
 {}
 
 // Why the verdict on a payload is what it is. Refused as `tv_verdict` is.
-#[unsafe(no_mangle)]
-pub extern "C" fn tv_explain(server_seed: &[u8], table: &[u8], payload: &[u8]) -> TvExplained
+pub fn tv_explain(server_seed: &[u8], table: &[u8], payload: &[u8]) -> TvExplained
     ensures { result ≡ explained_numbers (explain_of server_seed.now table.now payload.now) }
 {
     explained_numbers(signon_reason::explain(server_seed, table, payload))
@@ -134,8 +132,7 @@ pub extern "C" fn tv_explain(server_seed: &[u8], table: &[u8], payload: &[u8]) -
 
 // Writes the response record to the front of `out`. A number that is no verdict reads as 4, so that no session is said
 // to have started. Refused by 36 and 4.
-#[unsafe(no_mangle)]
-pub extern "C" fn tv_response(
+pub fn tv_response(
     device_fault: bool,
     verdict: u8,
     system: &[u8],

@@ -5,6 +5,7 @@
 use telnet_listing::{LIMIT, ROOM};
 
 const STDOUT_FILENO: i32 = 1;
+
 const STDERR_FILENO: i32 = 2;
 
 fn print(input: &[u8]) {

@@ -45,7 +45,7 @@ fn offer_given(bytes: &[u8], numbers: &[usize]) -> bool
 
 // The value of VAR USER, or nothing.
 pub fn user_of<'a>(bytes: &'a [u8], numbers: &[usize]) -> &'a [u8]
-    ensures { result.now ≡ userOf (variablesHeld bytes.now numbers.now) }
+    ensures { result.now ≡ user_of (variables_held bytes.now numbers.now) }
 {
     env_search::value_of(bytes, numbers, VAR_KIND, b"USER")
 }

@@ -1,0 +1,11 @@
+-- `play_environ::tell` meets its contract. Assumes nothing.
+use mathlib.Core.Path.{ap, ◌∙◌}
+use Rattle.telnet.specs.Event.{subnegotiation}
+use Rattle.option_rules.specs.Table.{new_environ}
+use Rattle.show_event.specs.Sent.{sent_at}
+use Rattle.play_environ.proofs.tell.Goals as goal
+
+pub returns : goal.returns
+returns c =
+    let a = c.args in
+    c.send_event.ensures ∙ ap (λ p. sent_at (subnegotiation new_environ p) a.up.now a.at) c.payload.ensures
