@@ -1,5 +1,6 @@
 -- The calls from C (`Demand1C`): an answer's refusal is one of its numbers, and what is handed over by numbers comes
 -- back by them with a refusal; so each field follows from the one of `Demand1`. Assumes nothing.
+use Rattle.std.specs.Prelude.{if◌then◌else◌}
 use mathlib.Core.Path.{◌≡◌, refl, ap, subst, subst⁻¹, ◌∙◌}
 use mathlib.Core.Bool.{Bool, true, false, not, ◌||◌}
 use mathlib.Core.List.{List, [], ◌∷◌}
@@ -7,7 +8,6 @@ use Prim.Native.Nat.{ℕ}
 use lib.Dec.{T, eqb, ltb}
 use lib.ListN.{length}
 use borrow.Author.Tests.{eqb-true}
-use Rattle.octets.specs.Choice.{if◌then◌else◌}
 use Rattle.octets.specs.Lent.{Outcome, outcome}
 use Rattle.octets.proofs.Choice.{choice}
 use Rattle.octets.proofs.Promise.{front-either}
@@ -172,7 +172,7 @@ writes-named : (k : NamedKind) (payload out : List ℕ)
 unfolding one_of
 writes-named NoKind payload out = (tt, refl)
 writes-named (IsKind k) payload out =
-    let e = event k payload in told-into written_refusal written-number _ out (write_of e out) (writes e out)
+    let e = event k payload in told-into written_refusal written-number (7 ∷ 3 ∷ 4 ∷ []) out (write_of e out) (writes e out)
 
 -- a step that refuses by some numbers, where neither 0 nor 14 is a refusal
 module _ (ms : List ℕ) (by : ℕ → Refusal) (zero-by : by 0 ≡ no_refusal)
@@ -237,7 +237,7 @@ receives-on-named s (IsVerb v) option accept l at =
     let o = received_on x v option accept l at in
     let a = o.answer in
     steps-on-line (5 ∷ 4 ∷ 6 ∷ []) by_receipt refl (λ _. refl) s x l at o
-    (wider _ _ (after (5 ∷ 4 ∷ []) (6 ∷ [])) {L = Sides × (List ℕ × ℕ)} (x, (l, at)) (a.sides, (o.lent, a.place))
+    (wider (5 ∷ 4 ∷ []) (mathlib.Core.List.◌++◌ {A = ℕ} (5 ∷ 4 ∷ []) (6 ∷ [])) (after (5 ∷ 4 ∷ []) (6 ∷ [])) {L = Sides × (List ℕ × ℕ)} (x, (l, at)) (a.sides, (o.lent, a.place))
     (by_receipt a.number) (line-receives x v option accept l at))
 
 -- a hash value that is written
@@ -254,8 +254,8 @@ sha-tokens-written : (name password out : List ℕ)
 unfolding one_of
 sha-tokens-written name password out =
     let h = sha_token name password in
-    hash-written _ h out tt
-    (wider _ _ (after (33 ∷ 34 ∷ []) (4 ∷ [])) {L = Unit {0}} tt tt (by_number h.refusal) (sha-tokens name password))
+    hash-written (mathlib.Core.List.◌++◌ {A = ℕ} (33 ∷ 34 ∷ []) (4 ∷ [])) h out tt
+    (wider (33 ∷ 34 ∷ []) (mathlib.Core.List.◌++◌ {A = ℕ} (33 ∷ 34 ∷ []) (4 ∷ [])) (after (33 ∷ 34 ∷ []) (4 ∷ [])) {L = Unit {0}} tt tt (by_number h.refusal) (sha-tokens name password))
 
 sha-substitutes-written : (token name : List ℕ) (server client : ℕ) (out : List ℕ)
     → Writes (31 ∷ 33 ∷ 4 ∷ []) out (substitute_into token name server client out)
@@ -264,8 +264,8 @@ sha-substitutes-written token name server client out =
     let h = sha_substitute token name server client in
     choice (Writes (31 ∷ 33 ∷ 4 ∷ []) out) (not (eqb (length token) sha_length)) {x = outcome (not_written bad_profile) out}
     (λ _. (tt, refl))
-    (λ _. hash-written _ h out tt
-    (wider _ _ (λ n t. more 31 (33 ∷ 4 ∷ []) n (after (33 ∷ []) (4 ∷ []) n t)) {L = Unit {0}} tt tt
+    (λ _. hash-written (31 ∷ 33 ∷ 4 ∷ []) h out tt
+    (wider (33 ∷ []) (31 ∷ 33 ∷ 4 ∷ []) (λ n t. more 31 (33 ∷ 4 ∷ []) n (after (33 ∷ []) (4 ∷ []) n t)) {L = Unit {0}} tt tt
     (by_number h.refusal) (sha-substitutes token name server client)))
 
 -- a ledger that is handed over by its numbers
@@ -288,65 +288,65 @@ module _ (ms : List ℕ) (given l : TvLedger) where
 pub demand-1-c-holds : Demand1C
 unfolding one_of
 demand-1-c-holds = record {
-  look = λ s at. told-by event_refusal event-number _ (look_at s at) (looks s at);
-  read = λ s at out. told-into event_refusal event-number _ out (read_at s at out) (reads s at out);
-  read_record = λ s at out. told-into record_refusal record-number _ out (record_at s at out) (reads-records s at out);
+  look = λ s at. told-by event_refusal event-number (5 ∷ Rattle.claims.specs.Demand1.line) (look_at s at) (looks s at);
+  read = λ s at out. told-into event_refusal event-number (5 ∷ 4 ∷ Rattle.claims.specs.Demand1.line) out (read_at s at out) (reads s at out);
+  read_record = λ s at out. told-into record_refusal record-number (5 ∷ 4 ∷ Rattle.claims.specs.Demand1.line) out (record_at s at out) (reads-records s at out);
   write = λ what code option payload out. writes-named (kind_named what code option) payload out;
   write_nothing = λ what code option payload out h.
       ap (λ (k : NamedKind). (written_numbers (Telnet.write_named k payload out).answer).refusal)
       ((no_kind what code option).1 h);
   reader_feed = reader-feeds;
-  sides_receive = λ s code option accept. receives-named _ tt s (verb_named code) option accept;
+  sides_receive = λ s code option accept. receives-named (6 ∷ []) tt s (verb_named code) option accept;
   sides_request = λ s ours option on.
       let x = sides_named s in
       let a = requested x (whose_named ours) option (command_named on) in
-      steps _ by_number refl (λ t. absurd t.0) s x a (session-requests x (whose_named ours) option (command_named on));
+      steps (10 ∷ 11 ∷ 12 ∷ 13 ∷ []) by_number refl (λ t. absurd t.0) s x a (session-requests x (whose_named ours) option (command_named on));
   option_receive = λ s code option accept l at. receives-on-named s (verb_named code) option accept l at;
   option_request = λ s ours option on l at.
       let x = sides_named s in
-      steps-on-line _ by_number refl (λ t. absurd t.0) s x l at
+      steps-on-line (5 ∷ 4 ∷ 10 ∷ 11 ∷ 12 ∷ 13 ∷ []) by_number refl (λ t. absurd t.0) s x l at
       (requested_on x (whose_named ours) option (command_named on) l at)
       (line-requests x (whose_named ours) option (command_named on) l at);
   option_hear = λ s heard from accept l at.
       let x = sides_named s in
-      steps-on-line _ by_receipt refl (λ _. refl) s x l at (heard_on x heard from accept l at)
+      steps-on-line (5 ∷ 4 ∷ Rattle.claims.specs.Demand1.line) by_receipt refl (λ _. refl) s x l at (heard_on x heard from accept l at)
       (line-hears x heard from accept l at);
   receive_nothing = λ s code option accept h.
       ap (λ (v : NamedVerb). (receive_named s v option accept).number) ((no-verb code).1 h);
   env_read = λ p bytes numbers.
       let d = read_into p bytes numbers in
-      told payload_refusal payload-number _ {L = List ℕ × List ℕ} (bytes, numbers) (d.bytes, d.numbers) d.answer
+      told payload_refusal payload-number (4 ∷ Rattle.claims.specs.Demand1.payload) {L = List ℕ × List ℕ} (bytes, numbers) (d.bytes, d.numbers) d.answer
       (reads-payloads p bytes numbers);
   env_write = λ first bytes numbers out.
-      told-into written_refusal written-number _ out (write_into first bytes numbers out)
+      told-into written_refusal written-number (20 ∷ 27 ∷ 21 ∷ 24 ∷ 25 ∷ 3 ∷ 4 ∷ []) out (write_into first bytes numbers out)
       (writes-payloads first bytes numbers out);
-  list = λ words out. told-into written_refusal written-number _ out (written_into words out) (lists words out);
-  table_check = λ t. told-by check_refusal table-number _ (checked (table_of t)) (checks t);
-  table_find = λ t name. told-by lookup_refusal found_number _ (found_in name (table_of t)) (finds t name);
-  make_record = λ m out. told-into written_refusal written-number _ out (make_into m out) (makes m out);
-  des_token = λ name password. told-by block_refusal block-number _ (des_token name password) (des-tokens name password);
+  list = λ words out. told-into written_refusal written-number (4 ∷ []) out (written_into words out) (lists words out);
+  table_check = λ t. told-by check_refusal table-number Rattle.claims.specs.Demand1.table (checked (table_of t)) (checks t);
+  table_find = λ t name. told-by lookup_refusal found_number Rattle.claims.specs.Demand1.table (found_in name (table_of t)) (finds t name);
+  make_record = λ m out. told-into written_refusal written-number (33 ∷ 34 ∷ 4 ∷ []) out (make_into m out) (makes m out);
+  des_token = λ name password. told-by block_refusal block-number (33 ∷ 34 ∷ []) (des_token name password) (des-tokens name password);
   des_substitute = λ token name server client.
-      told-by block_refusal block-number _ (des_substitute token name server client)
+      told-by block_refusal block-number (33 ∷ []) (des_substitute token name server client)
       (des-substitutes token name server client);
   sha_token = sha-tokens-written;
   sha_substitute = sha-substitutes-written;
-  verdict = λ seed t p. told-by verdict_refusal signon-number _ (answer_of seed t p) (judges seed t p);
-  explain = λ seed t p. told-by explain_refusal explained-number _ (explain_of seed t p) (explains seed t p);
+  verdict = λ seed t p. told-by verdict_refusal signon-number (mathlib.Core.List.◌++◌ {A = ℕ} (35 ∷ Rattle.claims.specs.Demand1.table) Rattle.claims.specs.Demand1.payload) (answer_of seed t p) (judges seed t p);
+  explain = λ seed t p. told-by explain_refusal explained-number (mathlib.Core.List.◌++◌ {A = ℕ} (35 ∷ Rattle.claims.specs.Demand1.table) Rattle.claims.specs.Demand1.payload) (explain_of seed t p) (explains seed t p);
   response = λ fault verdict system device out.
       let v = verdict_named verdict in
-      told-into written_refusal written-number _ out (respond_into fault v system device out)
+      told-into written_refusal written-number (36 ∷ 4 ∷ []) out (respond_into fault v system device out)
       (responds fault v system device out);
-  read_frame = λ f. told-by frame_refusal frame-number _ (frame_of f) (reads-frames f);
+  read_frame = λ f. told-by frame_refusal frame-number Rattle.claims.specs.Demand1.frame (frame_of f) (reads-frames f);
   ledger_take = λ ledger f.
       let l = ledger_named ledger in
       let t = take_frame l f in
-      taken-told _ ledger (ledger_numbers t.ledger) t.receipt
-      (numbers_of _ l t.ledger (receipt_refusal t.receipt) (takes l f));
+      taken-told (52 ∷ 50 ∷ Rattle.claims.specs.Demand1.frame) ledger (ledger_numbers t.ledger) t.receipt
+      (numbers_of (52 ∷ 50 ∷ Rattle.claims.specs.Demand1.frame) l t.ledger (receipt_refusal t.receipt) (takes l f));
   ledger_complete = λ ledger out.
       let l = ledger_named ledger in
       let o = complete_into l out in
       let c = o.answer in
-      completed-told _ ledger (ledger_numbers c.ledger) out o.lent c.completion
-      (mapped _ (λ (p : Ledger × List ℕ). p.1) (l, out) (c.ledger, o.lent) (completion_refusal c.completion)
+      completed-told (51 ∷ 4 ∷ []) ledger (ledger_numbers c.ledger) out o.lent c.completion
+      (mapped (51 ∷ 4 ∷ []) (λ (p : Ledger × List ℕ). p.1) (l, out) (c.ledger, o.lent) (completion_refusal c.completion)
       (completes l out));
 }

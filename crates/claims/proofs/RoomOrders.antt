@@ -1,6 +1,7 @@
 -- 4 last: what else is told does not go by the room, and with room enough 4 is not told (`four-last`, the record
 -- `Orders.FourLast`). A definition is walked test by test; what is told before the room is looked at is `fixed`.
 -- Assumes nothing.
+use Rattle.std.specs.Prelude.{if◌then◌else◌}
 use mathlib.Core.Path.{◌≡◌, refl, sym, ap, subst, subst⁻¹, ◌∙◌}
 use mathlib.Core.Bool.{Bool, true, false, not}
 use mathlib.Core.List.{List, [], ◌∷◌}
@@ -10,7 +11,6 @@ use native.Mathlib.Omega.{arith}
 use lib.Dec.{T, ltb}
 use lib.ListN.{length, drop}
 use borrow.Author.Tests.{le-ltb}
-use Rattle.octets.specs.Choice.{if◌then◌else◌}
 use Rattle.octets.specs.Lent.{Outcome}
 use Rattle.octets.specs.Promise.{write_front}
 use Rattle.octets.proofs.Choice.{choice}

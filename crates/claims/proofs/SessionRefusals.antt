@@ -87,8 +87,8 @@ line-requests s w o c l at =
     let r = by_number (requested s w o c).number in
     on_line (5 ∷ 4 ∷ request_numbers) by_number refl (λ t. absurd t.0) s l at (requested_on s w o c l at)
     (number_by (λ n. RefusesBy (5 ∷ 4 ∷ request_numbers) (by_number n)) (tt, refl) (tt, refl) s w o _ l at (requested_on s w o c l at) told
-    (numbers_of _ s _ r
-    (wider _ _ (λ n t. more 5 (4 ∷ request_numbers) n (more 4 request_numbers n t)) s _ r (session-requests s w o c))))
+    (numbers_of (5 ∷ 4 ∷ request_numbers) s ((requested s w o c).sides) r
+    (wider request_numbers (5 ∷ 4 ∷ request_numbers) (λ n t. more 5 (4 ∷ request_numbers) n (more 4 request_numbers n t)) s ((requested s w o c).sides) r (session-requests s w o c))))
     told.kept
 
 -- a receipt refuses nothing

@@ -1,7 +1,6 @@
 -- By which numbers an entry point refuses, and that it then leaves all as it was. The number that an answer refuses by
 -- is said beside the answer, in the crate that declares it.
-use Rattle.std.specs.Prelude.{ℕ, Bool, false, ◌||◌, List, [], ◌∷◌, T, eqb, ◌≡◌}
-use Rattle.octets.specs.Choice.{if◌then◌else◌}
+use Rattle.std.specs.Prelude.{ℕ, Bool, false, ◌||◌, List, [], ◌∷◌, T, eqb, ◌≡◌, if◌then◌else◌}
 use Rattle.refusal.specs.Refusal.{no_room, off_answered_by_on}
 use Rattle.refusal.specs.RefusedBy.{Refusal, no_refusal, refused_by, by_number}
 

@@ -1,6 +1,7 @@
 -- The first fault of a payload decides (`first-fault-decides`), 25 gives way to a fault further right
 -- (`repeat-gives-way`), and 3 is told exactly where a payload is too long (`too-long-first`): theorems of `Theorems`.
 -- Assumes nothing.
+use Rattle.std.specs.Prelude.{if◌then◌else◌}
 use mathlib.Core.Path.{◌≡◌, refl, sym, ◌∙◌}
 use mathlib.Core.Bool.{Bool, true, false}
 use mathlib.Core.List.{List, [], ◌∷◌, ◌++◌}
@@ -10,7 +11,6 @@ use native.Mathlib.Omega.{arith}
 use lib.Dec.{ltb}
 use lib.ListN.{length, length-append}
 use Rattle.refusal.specs.Refusal.{no_variable}
-use Rattle.octets.specs.Choice.{if◌then◌else◌}
 use Rattle.octets.proofs.Choice.{choice}
 use Rattle.octets.proofs.Order.{below-or-above}
 use Rattle.telnet.specs.Event.{payload_limit}

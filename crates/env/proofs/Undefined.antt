@@ -1,5 +1,6 @@
 -- Undefined variables: a look-up passes over them (`Theorems.LookupPassesOver`), and a payload that is read can be
 -- written without them (`read-defined`). Assumes nothing.
+use Rattle.std.specs.Prelude.{if◌then◌else◌}
 use mathlib.Core.Path.{◌≡◌, refl}
 use mathlib.Core.Bool.{Bool, true, false}
 use mathlib.Core.List.{List, [], ◌∷◌, ◌++◌}
@@ -8,7 +9,6 @@ use native.Mathlib.Omega.{arith}
 use lib.Dec.{T}
 use lib.ListN.{length, length-append}
 use mir.Facts.{and_yes, yes_and}
-use Rattle.octets.specs.Choice.{if◌then◌else◌}
 use Rattle.octets.proofs.Choice.{choice}
 use Rattle.env.specs.Variable.{Value, undefined, defined, Variable, is_kind, is_defined, defined_ones, is, among, repeated, or_further, lookup}
 use Rattle.env.specs.Read.{reading_of, says}

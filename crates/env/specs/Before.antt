@@ -1,6 +1,6 @@
 -- The reading as it was before change request No. 3, which knew no undefined variable: a name without VALUE had an
 -- empty value. Only a theorem speaks of it (`Theorems.ReadsAsBefore`).
-use Rattle.std.specs.Prelude.{ℕ, suc, List, [], ◌∷◌, map, ltb, length}
+use Rattle.std.specs.Prelude.{ℕ, suc, List, [], ◌∷◌, map, ltb, length, if◌then◌else◌}
 use Rattle.env.specs.Variable.{defined, Variable, variable, is_first}
 use Rattle.env.specs.Fields.{Field, name_field, value_field, row_of}
 use Rattle.env.specs.Numbers.{bytes_of}
@@ -8,7 +8,6 @@ use Rattle.env.specs.Read.{Found, variables, fault, add_variable, limited, whole
 use Rattle.env.specs.Read.{Reading, says, not_read, distinct}
 use Rattle.telnet.specs.Event.{payload_limit}
 use Rattle.refusal.specs.Refusal.{payload_too_long, not_is_or_info, no_variable, value_in_value}
-use Rattle.octets.specs.Choice.{if◌then◌else◌}
 
 unfoldable pub names_before : (number k : ℕ) → List Field → Found
 names_before number k [] = variables []

@@ -1,8 +1,7 @@
 -- The part of a payload after its first byte is a row of fields: a VAR, VALUE or USERVAR that no ESC comes before, and
 -- the text after it, a name or a value without its ESCs.
-use Rattle.std.specs.Prelude.{ℕ, zero, suc, List, [], ◌∷◌, leb}
+use Rattle.std.specs.Prelude.{ℕ, zero, suc, List, [], ◌∷◌, leb, if◌then◌else◌}
 use Rattle.env.specs.Variable.{VAR, USERVAR}
-use Rattle.octets.specs.Choice.{if◌then◌else◌}
 
 -- a name or a value; broken, where it has an ESC at the end of the payload or before a byte above 3
 pub data Text : Type 0 where

@@ -1,8 +1,7 @@
 -- Variables as the code holds them: names and values in a buffer, and a list of variable records (the specification's
 -- own term), each with the kind, place and length of the name, place and length of the value, and the mark of the value
 -- (change request No. 3). The list is one of numbers, `record_width` for each record.
-use Rattle.std.specs.Prelude.{ℕ, zero, suc, ◌+◌, ◌*◌, ◌/◌, Bool, true, ◌||◌, ◌&&◌, List, [], ◌∷◌, ◌++◌, map, eqb, leb, length, get_or, drop}
-use Rattle.octets.specs.Choice.{if◌then◌else◌}
+use Rattle.std.specs.Prelude.{ℕ, zero, suc, ◌+◌, ◌*◌, ◌/◌, Bool, true, ◌||◌, ◌&&◌, List, [], ◌∷◌, ◌++◌, map, eqb, leb, length, get_or, drop, if◌then◌else◌}
 use Rattle.octets.specs.Part.{part}
 use Rattle.env.specs.declared.VariableRecord.{VariableRecord}
 use Rattle.env.specs.Variable.{Value, undefined, defined, Variable, variable, is_kind, variable_limit}

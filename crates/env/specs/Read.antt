@@ -1,11 +1,10 @@
 -- Reading a payload: what it says, or the number by which it is refused (specification, "Environment strings" and
 -- "Refusal numbers" 3, 20 to 25: 3 before 20, then the first fault met from left to right, 25 after all those).
-use Rattle.std.specs.Prelude.{ℕ, suc, List, [], ◌∷◌, ltb, length}
+use Rattle.std.specs.Prelude.{ℕ, suc, List, [], ◌∷◌, ltb, length, if◌then◌else◌}
 use Rattle.env.specs.Variable.{undefined, defined, Variable, variable, variable_limit, is_first, repeated}
 use Rattle.env.specs.Fields.{Text, text, broken, Field, name_field, value_field, Row, row_of}
 use Rattle.telnet.specs.Event.{payload_limit}
 use Rattle.refusal.specs.Refusal.{payload_too_long, not_is_or_info, no_variable, bad_escape, value_in_value, too_many_variables, repeated_variable}
-use Rattle.octets.specs.Choice.{if◌then◌else◌}
 
 -- variables in their order, or the number of the first fault
 pub data Found : Type 0 where

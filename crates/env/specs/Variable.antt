@@ -1,6 +1,5 @@
 -- Environment variables and the codes of RFC 1572, section 2, as the specification reads them ("Environment strings").
-use Rattle.std.specs.Prelude.{ℕ, Bool, true, false, ◌||◌, ◌&&◌, List, [], ◌∷◌, eqb}
-use Rattle.octets.specs.Choice.{if◌then◌else◌}
+use Rattle.std.specs.Prelude.{ℕ, Bool, true, false, ◌||◌, ◌&&◌, List, [], ◌∷◌, eqb, if◌then◌else◌}
 use Rattle.octets.specs.Same.{same}
 
 -- the first byte of a payload: IS answers a SEND, INFO tells of a change

@@ -1,10 +1,9 @@
 -- Writing a payload (specification, "Environment strings": the writer escapes 0 to 3, and the order of its refusals; it
 -- "always writes VALUE" but for change request No. 3: "the writer leaves VALUE out for" an undefined variable).
-use Rattle.std.specs.Prelude.{◌≡◌, Bool, true, false, ◌||◌, ◌&&◌, List, [], ◌∷◌, ◌++◌, ℕ, T, leb, ltb, length}
+use Rattle.std.specs.Prelude.{◌≡◌, Bool, true, false, ◌||◌, ◌&&◌, List, [], ◌∷◌, ◌++◌, ℕ, T, leb, ltb, length, if◌then◌else◌}
 use Rattle.env.specs.Variable.{Value, undefined, defined, Variable, VALUE, ESC, is_first, is_kind, variable_limit, repeated}
 use Rattle.telnet.specs.Event.{payload_limit}
 use Rattle.refusal.specs.Refusal.{payload_too_long, no_variable, too_many_variables, repeated_variable}
-use Rattle.octets.specs.Choice.{if◌then◌else◌}
 
 -- a name or a value with its ESCs
 unfoldable pub escaped : List ℕ → List ℕ

@@ -1,5 +1,6 @@
 -- The laws of what becomes of texts and records that were read: the ways of `hand_over`, and that variables handed over
 -- are those variables delivered. Assumes nothing.
+use Rattle.std.specs.Prelude.{if◌then◌else◌}
 use mathlib.Core.Path.{◌≡◌, refl}
 use mathlib.Core.Bool.{Bool, true, false}
 use mathlib.Core.List.{List}
@@ -16,7 +17,6 @@ use Rattle.env.specs.Numbers.{record_width, packed, recorded}
 use Rattle.octets.specs.Part.{part}
 use Rattle.env.proofs.Holding.{held-recorded, length-recorded}
 use Rattle.refusal.specs.Refusal.{no_room, repeated_variable}
-use Rattle.octets.specs.Choice.{if◌then◌else◌}
 use Rattle.octets.specs.Lent.{overwrite}
 
 -- what is handed over, in the order of the tests

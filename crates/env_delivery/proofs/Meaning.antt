@@ -1,5 +1,6 @@
 -- What the reader's answer means (`Theorems.ReadIsHeld`), and that room for the largest payload suffices
 -- (`Theorems.RoomSuffices`). Assumes nothing.
+use Rattle.std.specs.Prelude.{if◌then◌else◌}
 use mathlib.Core.Path.{◌≡◌, ap, subst}
 use mathlib.Core.Bool.{Bool, true, false}
 use mathlib.Core.List.{List}
@@ -9,7 +10,6 @@ use lib.Dec.{ltb}
 use lib.ListN.{length, take}
 use lib.Seq.{take_all}
 use borrow.Author.Tests.{le-ltb}
-use Rattle.octets.specs.Choice.{if◌then◌else◌}
 use Rattle.octets.specs.Lent.{overwrite}
 use Rattle.octets.proofs.Choice.{choice}
 use Rattle.octets.proofs.Overwrite.{take-overwrite-front}

@@ -1,6 +1,6 @@
 -- What the reader answers, and what it leaves in the buffer and the list that it is lent: for every input and room,
 -- with the refusals in the specification's order, 4 last.
-use Rattle.std.specs.Prelude.{ℕ, ◌/◌, List, ◌∷◌, ltb, length}
+use Rattle.std.specs.Prelude.{ℕ, ◌/◌, List, ◌∷◌, ltb, length, if◌then◌else◌}
 use Rattle.env_delivery.specs.declared.Answer.{Answer}
 use Rattle.env_delivery.specs.declared.Answer.TheVariants.{Read, Refused}
 use Rattle.env.specs.Variable.{repeated}
@@ -10,7 +10,6 @@ use Rattle.telnet.specs.Event.{payload_limit}
 use Rattle.env.specs.Numbers.{record_width, packed, recorded, variables_held}
 use Rattle.refusal.specs.Refusal.{no_room, payload_too_long, repeated_variable}
 use Rattle.refusal.specs.RefusedBy.{Refusal, no_refusal, refused_by}
-use Rattle.octets.specs.Choice.{if◌then◌else◌}
 use Rattle.octets.specs.Lent.{overwrite}
 
 -- an answer with a buffer and a list of records as they are left

@@ -1,13 +1,12 @@
 -- What the reader into a list of records answers, and what it leaves in the buffer and the list that it is lent: for
 -- every input and room, with the refusals in the specification's order, 4 last.
-use Rattle.std.specs.Prelude.{ℕ, List, ◌++◌, ltb, length, drop}
+use Rattle.std.specs.Prelude.{ℕ, List, ◌++◌, ltb, length, drop, if◌then◌else◌}
 use Rattle.env.specs.declared.VariableRecord.{VariableRecord}
 use Rattle.env_delivery.specs.declared.Answer.{Answer}
 use Rattle.env_delivery.specs.declared.Answer.TheVariants.{Read, Refused}
 use Rattle.env.specs.Read.{Reading, says, not_read, reading_of}
 use Rattle.env.specs.Numbers.{records_of, packed, recorded}
 use Rattle.refusal.specs.Refusal.{no_room}
-use Rattle.octets.specs.Choice.{if◌then◌else◌}
 use Rattle.octets.specs.Lent.{Outcome, outcome, overwrite}
 use Rattle.env_list.specs.Lists.{Listing, listing}
 

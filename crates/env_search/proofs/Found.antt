@@ -1,5 +1,6 @@
 -- What a look-up finds is the value of the first variable of that kind and name that is defined, and it finds nothing
 -- exactly where there is none. Assumes nothing.
+use Rattle.std.specs.Prelude.{if◌then◌else◌}
 use mathlib.Core.Path.{◌≡◌, refl, sym, ap, ◌∙◌}
 use mathlib.Core.Bool.{Bool, true, false, ◌||◌, ◌&&◌}
 use mathlib.Core.List.{List, [], ◌∷◌, map}
@@ -13,7 +14,6 @@ use Rattle.env.specs.Variable.{undefined, defined, Variable, is_defined, defined
 use Rattle.env.specs.declared.VariableRecord.{VariableRecord}
 use Rattle.env.specs.Numbers.{records_of, DEFINED, value_by, variable_of, variables_held}
 use Rattle.octets.specs.Part.{part}
-use Rattle.octets.specs.Choice.{if◌then◌else◌}
 
 -- what a record gives a look-up: its value where it is defined, of that kind and name; else what is found further on
 value_of : (bytes : List ℕ) (a n : ℕ) (marked test : Bool) (after : ValuePlace) (rest : Lookup) → value_at bytes after ≡ rest

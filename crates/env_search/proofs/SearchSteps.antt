@@ -1,4 +1,5 @@
 -- Searching a list of records: what record i and the records after it give those from i on. Assumes nothing.
+use Rattle.std.specs.Prelude.{if◌then◌else◌}
 use mathlib.Core.Path.{◌≡◌, sym, ap, ◌∙◌}
 use mathlib.Core.Bool.{Bool, false, ◌||◌}
 use mathlib.Core.List.{List}
@@ -11,7 +12,6 @@ use Rattle.env_records.proofs.Steps.{none_left, record-step, held-step, held-end
 use Rattle.env.specs.declared.VariableRecord.{VariableRecord}
 use Rattle.env.specs.Variable.{is, among, repeated}
 use Rattle.env.specs.Numbers.{record_width, variable_of, variables_held}
-use Rattle.octets.specs.Choice.{if◌then◌else◌}
 
 pub among-step : (kind : ℕ) (name bytes l : List ℕ) (i : ℕ) → i < length l / record_width
     → among kind name (variables_held bytes (drop (record_width * i) l))

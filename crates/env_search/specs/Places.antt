@@ -1,11 +1,10 @@
 -- What the search in a list of variable records answers.
-use Rattle.std.specs.Prelude.{ℕ, Bool, ◌&&◌, List, [], ◌∷◌, eqb}
+use Rattle.std.specs.Prelude.{ℕ, Bool, ◌&&◌, List, [], ◌∷◌, eqb, if◌then◌else◌}
 use Rattle.env.specs.declared.VariableRecord.{VariableRecord}
 use Rattle.env_search.specs.declared.ValuePlace.{ValuePlace}
 use Rattle.env_search.specs.declared.ValuePlace.TheVariants.{Absent, At}
 use Rattle.env.specs.Variable.{is}
 use Rattle.env.specs.Numbers.{records_of, DEFINED, variable_of}
-use Rattle.octets.specs.Choice.{if◌then◌else◌}
 
 -- a record is of a kind and name over a buffer, and defined
 unfoldable pub is_defined_of : ℕ → (name bytes : List ℕ) → VariableRecord → Bool

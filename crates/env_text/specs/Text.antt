@@ -1,7 +1,6 @@
 -- A name or a value in a payload: the bytes up to a VAR, VALUE or USERVAR, an ESC before each byte 0 to 3.
-use Rattle.std.specs.Prelude.{Bool, true, false, List, [], ◌∷◌, ℕ, zero, suc, ◌+◌, ◌-◌, leb, length, take, drop}
+use Rattle.std.specs.Prelude.{Bool, true, false, List, [], ◌∷◌, ℕ, zero, suc, ◌+◌, ◌-◌, leb, length, take, drop, if◌then◌else◌}
 use Rattle.env_text.specs.declared.Text.{Text}
-use Rattle.octets.specs.Choice.{if◌then◌else◌}
 use Rattle.octets.specs.Lent.{Outcome, outcome, overwrite}
 
 -- the bytes of the text without their ESCs, and what comes after it

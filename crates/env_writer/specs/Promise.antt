@@ -1,6 +1,6 @@
 -- What the writer answers, and what it leaves in the buffer that it is lent: for every input and room, with the
 -- refusals in the specification's order: 20, 27, 21, 24, 25, 3, each over the whole list before the next, and 4 last.
-use Rattle.std.specs.Prelude.{ℕ, not, List}
+use Rattle.std.specs.Prelude.{ℕ, not, List, if◌then◌else◌}
 use Rattle.env.specs.Variable.{is_first}
 use Rattle.env.specs.Write.{Objection, none, against, objection, payload_of}
 use Rattle.env.specs.Numbers.{variables_held, placed}
@@ -8,7 +8,6 @@ use Rattle.refusal.specs.declared.Written.{Written}
 use Rattle.refusal.specs.declared.Written.TheVariants.{Refused}
 use Rattle.refusal.specs.Refusal.{not_is_or_info, bad_variable_record}
 use Rattle.refusal.specs.Written.{written_into}
-use Rattle.octets.specs.Choice.{if◌then◌else◌}
 use Rattle.octets.specs.Lent.{Outcome, outcome}
 
 -- a payload, written where nothing is held against it

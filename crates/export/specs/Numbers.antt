@@ -1,5 +1,5 @@
 -- The numbers by which the kinds of events and the answers of writers cross to a caller in C.
-use Rattle.std.specs.Prelude.{◌≡◌, ◌↔◌, ◌⊎◌, ℕ, ◌<◌, Bool, eqb}
+use Rattle.std.specs.Prelude.{◌≡◌, ◌↔◌, ◌⊎◌, ℕ, ◌<◌, Bool, eqb, if◌then◌else◌}
 use Rattle.refusal.specs.declared.Written.{Written}
 use Rattle.refusal.specs.declared.Written.TheVariants.{Wrote, Refused}
 use Rattle.telnet.specs.declared.Verb.{Verb}
@@ -13,7 +13,6 @@ use Rattle.export.specs.declared.NamedVerb.{NamedVerb}
 use Rattle.export.specs.declared.NamedVerb.TheVariants.{Nothing as NoVerb, Verb as IsVerb}
 use Rattle.export.specs.declared.NamedKind.{NamedKind}
 use Rattle.export.specs.declared.NamedKind.TheVariants.{Nothing as NoKind, Kind as IsKind}
-use Rattle.octets.specs.Choice.{if◌then◌else◌}
 use Rattle.octets.specs.Lent.{Outcome, outcome}
 
 -- an outcome with its answer as numbers; what is lent is left as it is

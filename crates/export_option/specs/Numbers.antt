@@ -1,5 +1,5 @@
 -- The numbers of the sides of a session and of what a call of them answers, and the sides that numbers name.
-use Rattle.std.specs.Prelude.{◌≡◌, ◌↔◌, ◌⊎◌, ℕ, ◌<◌, Bool, not, ◌||◌, List, eqb, ltb, length}
+use Rattle.std.specs.Prelude.{◌≡◌, ◌↔◌, ◌⊎◌, ℕ, ◌<◌, Bool, not, ◌||◌, List, eqb, ltb, length, if◌then◌else◌}
 use Rattle.option_rules.specs.declared.Command.{Command}
 use Rattle.option_rules.specs.declared.Command.TheVariants.{On as on, Off as off}
 use Rattle.option_rules.specs.declared.Side.{Side}
@@ -23,7 +23,6 @@ use Rattle.export.specs.declared.NamedVerb.{NamedVerb}
 use Rattle.export.specs.declared.NamedVerb.TheVariants.{Nothing as NoVerb, Verb as IsVerb}
 use Rattle.export.specs.Numbers.{numbered}
 use Rattle.refusal.specs.Refusal.{past_the_end, bad_command, off_answered_by_on}
-use Rattle.octets.specs.Choice.{if◌then◌else◌}
 use Rattle.octets.specs.Lent.{Outcome, outcome}
 
 -- the number of a state: the rows of the specification's table, from 0 on

@@ -1,5 +1,5 @@
 -- The numbers of each answer of the tokens and substitutes, and what is left in the buffer that is lent for one.
-use Rattle.std.specs.Prelude.{ℕ, not, List, eqb, length}
+use Rattle.std.specs.Prelude.{ℕ, not, List, eqb, length, if◌then◌else◌}
 use Rattle.password_des.specs.declared.Block.{Block}
 use Rattle.password_des.specs.declared.Block.TheVariants.{Value, Refused}
 use Rattle.password_sha.specs.declared.Hash.{Hash}
@@ -8,7 +8,6 @@ use Rattle.export_password.specs.declared.TvBlock.{TvBlock}
 use Rattle.export.specs.declared.TvWritten.{TvWritten}
 use Rattle.export.specs.Numbers.{wrote, not_written}
 use Rattle.refusal.specs.Refusal.{no_room, bad_profile}
-use Rattle.octets.specs.Choice.{if◌then◌else◌}
 use Rattle.octets.specs.Lent.{Outcome, outcome}
 use Rattle.octets.specs.Promise.{write_front}
 

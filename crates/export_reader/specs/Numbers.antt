@@ -1,6 +1,6 @@
 -- The numbers of a reader that takes a stream by fragments and of what a call of it answers, and the reader that numbers
 -- name.
-use Rattle.std.specs.Prelude.{◌≡◌, ◌↔◌, ℕ, ◌<◌, Bool, List, eqb}
+use Rattle.std.specs.Prelude.{◌≡◌, ◌↔◌, ℕ, ◌<◌, Bool, List, eqb, if◌then◌else◌}
 use Rattle.telnet.specs.declared.Kind.{Kind}
 use Rattle.telnet.specs.declared.Kind.TheVariants.{Data as NoEvent, Command, Negotiation, Subnegotiation}
 use Rattle.telnet.specs.Event.{code}
@@ -19,7 +19,6 @@ use Rattle.export.specs.declared.NamedVerb.TheVariants.{Nothing as NoVerb, Verb 
 use Rattle.export.specs.Numbers.{three, kind_numbers, verb_named, NoCode}
 use Rattle.export_reader.specs.declared.TvReader.{TvReader}
 use Rattle.export_reader.specs.declared.TvFed.{TvFed}
-use Rattle.octets.specs.Choice.{if◌then◌else◌}
 
 abbrev pub reader : (stage code count : ℕ) → TvReader
 reader s c n = record { stage = s; code = c; count = n }

@@ -1,5 +1,5 @@
 -- The numbers of the verdicts, of the reasons and of what is answered with them, and the verdict that a number names.
-use Rattle.std.specs.Prelude.{◌≡◌, ◌↔◌, ℕ, ◌/◌, eqb}
+use Rattle.std.specs.Prelude.{◌≡◌, ◌↔◌, ℕ, ◌/◌, eqb, if◌then◌else◌}
 use Rattle.signon.specs.declared.Verdict.{Verdict}
 use Rattle.signon.specs.declared.Verdict.TheVariants.{Panel, NotKnown, Disabled, Failed, Grant}
 use Rattle.signon.specs.declared.Reason.{Reason}
@@ -13,7 +13,6 @@ use Rattle.signon.specs.declared.Answer.{Answer}
 use Rattle.signon.specs.declared.Answer.TheVariants.{Given, Refused}
 use Rattle.export_signon.specs.declared.TvVerdict.{TvVerdict}
 use Rattle.export_signon.specs.declared.TvExplained.{TvExplained}
-use Rattle.octets.specs.Choice.{if◌then◌else◌}
 
 -- 0002, 0003 and 0004 by their digits, PANEL before them and GRANT after them
 abbrev pub verdict_number : Verdict → ℕ

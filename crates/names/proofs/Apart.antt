@@ -1,10 +1,10 @@
 -- The bytes of names keep apart in EBCDIC. Assumes nothing.
+use Rattle.std.specs.Prelude.{if◌then◌else◌}
 use mathlib.Core.Path.{◌≡◌, refl, sym, ap, ◌∙◌}
 use mathlib.Core.Bool.{true, not}
 use Prim.Native.Nat.{ℕ, zero, suc, ◌<◌}
 use native.Mathlib.Omega.{arith}
 use lib.Dec.{eqb}
-use Rattle.octets.specs.Choice.{if◌then◌else◌}
 use Rattle.names.specs.Name.{is_name_byte}
 use Rattle.names.specs.Ebcdic.{ebcdic, substitute}
 use Rattle.names.specs.Theorems.{OwnEbcdic, Apart}

@@ -1,8 +1,7 @@
 -- The EBCDIC of a name's bytes (specification, "Tokens, substitutes, verdicts").
-use Rattle.std.specs.Prelude.{List, map, ℕ, ◌+◌, ◌-◌, eqb}
+use Rattle.std.specs.Prelude.{List, map, ℕ, ◌+◌, ◌-◌, eqb, if◌then◌else◌}
 use Rattle.names.specs.Range.{in_range}
 use Rattle.names.specs.Name.{raised}
-use Rattle.octets.specs.Choice.{if◌then◌else◌}
 
 -- EBCDIC's substitute for what it does not have, SUB, and its blank
 abbrev pub substitute : ℕ

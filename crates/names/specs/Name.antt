@@ -1,10 +1,9 @@
 -- Profile names, device names and system names (specification, "Tokens, substitutes, verdicts" and "Response records"),
 -- in ASCII.
-use Rattle.std.specs.Prelude.{Bool, ◌&&◌, ◌||◌, List, [], map, ℕ, ◌-◌, eqb, leb, length}
+use Rattle.std.specs.Prelude.{Bool, ◌&&◌, ◌||◌, List, [], map, ℕ, ◌-◌, eqb, leb, length, if◌then◌else◌}
 use Rattle.names.specs.declared.Name.{Name}
 use Rattle.names.specs.Range.{in_range, every}
 use Rattle.names.specs.Padding.{filled}
-use Rattle.octets.specs.Choice.{if◌then◌else◌}
 
 -- a lower case letter raised, any other byte as it is
 unfoldable pub raised_byte : ℕ → ℕ

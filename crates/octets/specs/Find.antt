@@ -1,6 +1,5 @@
 -- What comes before a byte.
-use Rattle.std.specs.Prelude.{ℕ, List, [], ◌∷◌, eqb}
-use Rattle.octets.specs.Choice.{if◌then◌else◌}
+use Rattle.std.specs.Prelude.{ℕ, List, [], ◌∷◌, eqb, if◌then◌else◌}
 
 -- what comes before the first byte b; all where there is none
 unfoldable pub up_to : ℕ → List ℕ → List ℕ

@@ -1,6 +1,5 @@
 pub mod Bytes
 pub mod Ascii
-pub mod Choice
 pub mod Decimal
 pub mod Lent
 pub mod Promise

@@ -1,6 +1,5 @@
 -- Bytes put into a buffer: all of them, or none.
-use Rattle.std.specs.Prelude.{ℕ, ◌+◌, Bool, true, false, List, leb, ltb, length}
-use Rattle.octets.specs.Choice.{if◌then◌else◌}
+use Rattle.std.specs.Prelude.{ℕ, ◌+◌, Bool, true, false, List, leb, ltb, length, if◌then◌else◌}
 use Rattle.octets.specs.Lent.{Outcome, outcome, overwrite}
 
 -- bytes put at a place of a buffer; where they do not fit, a refusal, and the buffer is as it was

@@ -1,5 +1,6 @@
 -- Demand 3 (`demand3`, the statement `Agreement.Demand3`): every list of calls leads to a pair of ends that was
 -- reached, and the weight pays for each command. Assumes nothing.
+use Rattle.std.specs.Prelude.{if◌then◌else◌}
 use mathlib.Core.Path.{◌≡◌, refl, ap, subst⁻¹, ◌∙◌}
 use Prim.Native.Nat.{ℕ, suc, ◌+◌, ◌*◌, ◌≤◌}
 use native.Mathlib.Omega.{arith}
@@ -15,7 +16,6 @@ use Rattle.option_ends.specs.Agreement.{Quiet, Both, Settles, Agreed, Demand3}
 use Rattle.option_ends.proofs.Reached.{Reachable, reachable-fresh, reachable-move, lines-short, weight, weightless, paid, quiet-rests}
 use Rattle.option_rules.proofs.Chosen.{rules-carried}
 use Rattle.option_ends.proofs.Course.{settles}
-use Rattle.octets.specs.Choice.{if◌then◌else◌}
 
 pub after-append : (r : Side → Row) (t : Ends) (ks ls : List Call) → after r t (ks ++ ls) ≡ after r (after r t ks) ls
 unfolding after

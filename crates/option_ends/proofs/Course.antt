@@ -1,5 +1,6 @@
 -- What follows one request for on, from two ends that are off with nothing under way: at first the command is on its
 -- way, then its answer, then nothing is. Assumes nothing.
+use Rattle.std.specs.Prelude.{if◌then◌else◌}
 use mathlib.Core.Path.{◌≡◌, refl, ap, ◌∙◌}
 use Prim.Native.Nat.{ℕ, suc, ◌≤◌}
 use native.Mathlib.Omega.{arith}
@@ -15,7 +16,6 @@ use Rattle.option_rules.specs.Table.{table}
 use Rattle.option_ends.specs.Ends.{End, near, far, other, request, receive, Call, ◌does◌, Ends, ends, at, fresh}
 use Rattle.option_ends.specs.Ends.{CallResult, taken, call_result, sent_by, stepped, changed, move, after, count_where, receipt, same, acceptance, receipts_only}
 use Rattle.option_ends.specs.Agreement.{Quiet, Both, Settles}
-use Rattle.octets.specs.Choice.{if◌then◌else◌}
 
 -- the state in which both rest, by whether the other end accepted
 abbrev outcome : Bool → Side

@@ -1,5 +1,6 @@
 -- The pairs of ends that calls can lead to, found by walking from the fresh pair, and one computed test of them all.
 -- Assumes nothing.
+use Rattle.std.specs.Prelude.{if◌then◌else◌}
 use mathlib.Core.Path.{◌≡◌, refl, sym, ap, ap₂, subst⁻¹, ◌∙◌}
 use mathlib.Core.Logic.{◌⊎◌, inl, inr}
 use Prim.Native.Nat.{ℕ, zero, suc, ◌+◌, ◌≤◌, ◌<◌}
@@ -17,7 +18,6 @@ use Rattle.option_rules.specs.Table.{table}
 use Rattle.option_ends.specs.Ends.{End, near, far, Act, request, receive, Call, ◌does◌, AtEnd, Ends, at, fresh}
 use Rattle.option_ends.specs.Ends.{taken, call_result, sent_by, stepped, changed, move, is_command, sends, is_refusal, granted}
 use Rattle.option_ends.specs.Agreement.{Quiet, Both}
-use Rattle.octets.specs.Choice.{if◌then◌else◌}
 
 -- Two pairs of ends are the same.
 

@@ -1,5 +1,6 @@
 -- What one call does to a standing, from either end; and that a line of the code holds its commands whole. Assumes
 -- nothing.
+use Rattle.std.specs.Prelude.{if◌then◌else◌}
 use mathlib.Core.Path.{◌≡◌, refl, ap}
 use Prim.Native.Nat.{ℕ, ◌+◌, ◌-◌, ◌≤◌, ◌<◌}
 use native.Mathlib.Nat.{add-zero}
@@ -17,7 +18,6 @@ use Rattle.option_ends.specs.Ends.{near, far, Act, ◌does◌, Ends, at, CallRes
 use Rattle.option_ends.specs.Ends.{after, count_where, sends, granted}
 use Rattle.option_ends.specs.Replay.{act_of, call_of, Standing, commands, at_end, both_ends}
 use Rattle.option_ends.specs.Internal.Turn.{plus, onward, clipped, turn}
-use Rattle.octets.specs.Choice.{if◌then◌else◌}
 
 pub room : (l : Line) → take 2 (commands l) ≡ commands l
 room Empty = refl

@@ -1,5 +1,6 @@
 -- A replay, byte by byte: a byte more leads from where the bytes before it led to where they lead together, and the
 -- lines have room. Assumes nothing.
+use Rattle.std.specs.Prelude.{if◌then◌else◌}
 use mathlib.Core.Path.{◌≡◌, refl, sym}
 use Prim.Native.Nat.{ℕ, suc, ◌+◌, ◌-◌, ◌≤◌, ◌<◌}
 use native.Mathlib.Omega.{arith}
@@ -19,7 +20,6 @@ use Rattle.option_ends.specs.Replay.{act_of, call_of, calls_of, replayed}
 use Rattle.option_ends.specs.Internal.Turn.{onward, clipped}
 use Rattle.option_rules.proofs.Chosen.{by-none}
 use Rattle.option_ends.proofs.Agreement.{after-append, demand3}
-use Rattle.octets.specs.Choice.{if◌then◌else◌}
 
 -- nothing moves two fresh ends of an option that is not carried
 unmoved : (ks : List Call) → after untouched fresh ks ≡ fresh

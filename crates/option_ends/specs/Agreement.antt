@@ -1,13 +1,12 @@
 -- Demand 3, clause by clause, in the owner's words: what holds of two ends under our option rules after every list of
 -- calls; and that its bound is attained. The proofs are in `proofs/Agreement.antt` and `proofs/Attained.antt`.
-use Rattle.std.specs.Prelude.{◌≡◌, ◌⊎◌, Bool, true, List, [], ◌∷◌, ◌++◌, ℕ, ◌*◌, ◌≤◌, T, ltb, length}
+use Rattle.std.specs.Prelude.{◌≡◌, ◌⊎◌, Bool, true, List, [], ◌∷◌, ◌++◌, ℕ, ◌*◌, ◌≤◌, T, ltb, length, if◌then◌else◌}
 use Rattle.option_rules.specs.declared.Command.TheVariants.{On as on, Off as off}
 use Rattle.option_rules.specs.declared.Side.{Side}
 use Rattle.option_rules.specs.declared.Side.TheVariants.{On, Off}
 use Rattle.option_rules.specs.Table.{Row, carried, rules_of}
 use Rattle.option_ends.specs.Ends.{End, near, far, other, Call, ◌does◌, request, receive, Ends, at, fresh, call_result, move, after, receipts_only}
 use Rattle.option_ends.specs.Ends.{number_told, count_where, sends, granted, receipt, acceptance}
-use Rattle.octets.specs.Choice.{if◌then◌else◌}
 
 -- nothing is under way
 abbrev pub Quiet : Ends → Type 0

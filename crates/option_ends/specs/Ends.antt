@@ -1,6 +1,6 @@
 -- Two ends of one side of an option, each stepped by the option rules, with a line each way that keeps order and loses
 -- nothing (specification, "Two ends, for demand 3"). Every count is made over the history of calls.
-use Rattle.std.specs.Prelude.{ℕ, zero, suc, Bool, true, false, not, ◌&&◌, ◌||◌, List, [], ◌∷◌, ◌++◌, eqb}
+use Rattle.std.specs.Prelude.{ℕ, zero, suc, Bool, true, false, not, ◌&&◌, ◌||◌, List, [], ◌∷◌, ◌++◌, eqb, if◌then◌else◌}
 use Rattle.option_rules.specs.declared.Command.{Command}
 use Rattle.option_rules.specs.declared.Side.{Side}
 use Rattle.option_rules.specs.declared.Side.TheVariants.{Off}
@@ -9,7 +9,6 @@ use Rattle.option_rules.specs.declared.Sending.TheVariants.{Nothing, Command as 
 use Rattle.option_rules.specs.declared.Step.{Step}
 use Rattle.option_rules.specs.Table.{Row, on_receive, on_request}
 use Rattle.refusal.specs.Refusal.{not_carried, already_so, under_way, already_queued}
-use Rattle.octets.specs.Choice.{if◌then◌else◌}
 
 pub data End : Type 0 where
   near : End

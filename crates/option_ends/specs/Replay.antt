@@ -1,5 +1,5 @@
 -- Lists of calls as bytes, and what a replay of them over two ends returns.
-use Rattle.std.specs.Prelude.{ℕ, ◌-◌, true, false, List, [], ◌∷◌, ◌++◌, eqb, ltb}
+use Rattle.std.specs.Prelude.{ℕ, ◌-◌, true, false, List, [], ◌∷◌, ◌++◌, eqb, ltb, if◌then◌else◌}
 use Rattle.option_rules.specs.declared.Command.{Command}
 use Rattle.option_rules.specs.declared.Command.TheVariants.{On as on, Off as off}
 use Rattle.option_rules.specs.declared.Side.{Side}
@@ -10,7 +10,6 @@ use Rattle.option_ends.specs.declared.Replayed.{Replayed}
 use Rattle.option_rules.specs.Table.{Row}
 use Rattle.option_ends.specs.Ends.{near, far, Act, request, receive, Call, ◌does◌, AtEnd, Ends, fresh, after}
 use Rattle.option_ends.specs.Agreement.{commands_sent, requests_not_refused}
-use Rattle.octets.specs.Choice.{if◌then◌else◌}
 
 unfoldable pub act_of : ℕ → Act
 act_of n =

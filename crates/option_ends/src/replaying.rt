@@ -1,10 +1,9 @@
 // Two ends of one side of an option, and the lines between them, under any list of calls.
-ghost use Rattle.std.specs.Prelude.{◌≡◌, [], ◌∷◌, ◌++◌, ◌+◌, ◌<◌, ◌^◌, take, not};
+ghost use Rattle.std.specs.Prelude.{◌≡◌, [], ◌∷◌, ◌++◌, ◌+◌, ◌<◌, ◌^◌, take, not, if◌then◌else◌};
 ghost use Rattle.option_rules.specs.Table.{rules_of, on_request};
 ghost use Rattle.option_ends.specs.Ends.{requested, taken, call_result, is_refusal};
 ghost use Rattle.option_ends.specs.Replay.{act_of, call_of, calls_of, replayed, commands, at_end, both_ends, seen};
 ghost use Rattle.option_ends.specs.Internal.Turn.{plus, onward, clipped, leaves, turn};
-ghost use Rattle.octets.specs.Choice.{if◌then◌else◌};
 
 use crate::{Line, Peer, Replayed};
 use option_rules::{Command, Sending, Side, Step};

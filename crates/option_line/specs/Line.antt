@@ -1,8 +1,7 @@
 -- Option commands put on the line in the call that steps the sides, so that no step is taken whose command could not be
 -- sent (the owner's demand 3: "Lines keep order and lose nothing"). Refusals in the specification's order: 5 first, 4
 -- last.
-use Rattle.std.specs.Prelude.{ℕ, ◌+◌, Bool, List, leb, ltb, length}
-use Rattle.octets.specs.Choice.{if◌then◌else◌}
+use Rattle.std.specs.Prelude.{ℕ, ◌+◌, Bool, List, leb, ltb, length, if◌then◌else◌}
 use Rattle.octets.specs.Lent.{Outcome, outcome, overwrite}
 use Rattle.refusal.specs.Refusal.{no_room, past_the_end}
 use Rattle.telnet.specs.declared.Verb.{Verb}

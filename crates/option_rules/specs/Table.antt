@@ -1,7 +1,7 @@
 -- The option rules as a table: a row for each state, a column for each call (specification, "Option rules"; RFC 1143,
 -- "The Q Method", where the states are NO, YES, WANTNO with an empty or an opposite queue, and WANTYES with an empty or
 -- an opposite queue).
-use Rattle.std.specs.Prelude.{ℕ, Bool, true, false, eqb}
+use Rattle.std.specs.Prelude.{ℕ, Bool, true, false, eqb, if◌then◌else◌}
 use Rattle.option_rules.specs.declared.Command.{Command}
 use Rattle.option_rules.specs.declared.Command.TheVariants.{On as on, Off as off}
 use Rattle.option_rules.specs.declared.Side.{Side}
@@ -9,7 +9,6 @@ use Rattle.option_rules.specs.declared.Side.TheVariants.{Off, On, WantOff, WantO
 use Rattle.option_rules.specs.declared.Sending.TheVariants.{Nothing, Command as Sends}
 use Rattle.option_rules.specs.declared.Step.{Step}
 use Rattle.refusal.specs.Refusal.{not_carried, already_so, under_way, already_queued, off_answered_by_on}
-use Rattle.octets.specs.Choice.{if◌then◌else◌}
 
 -- a cell: the successor alone, with a command to send, or with a note; or a refusal
 infix 6 ◌send◌

@@ -1,4 +1,5 @@
 -- Setting one of the ten sides sets that one alone: the theorem `Session.SetsOne`. Assumes nothing.
+use Rattle.std.specs.Prelude.{if◌then◌else◌}
 use mathlib.Core.Path.{◌≡◌, refl, sym, ap, ◌∙◌}
 use Prim.Native.Nat.{ℕ}
 use mathlib.Core.Bool.{Bool, true, false, not}
@@ -11,7 +12,6 @@ use Rattle.option_sides.specs.declared.Pair.{Pair}
 use Rattle.option_sides.specs.declared.Sides.{Sides}
 use Rattle.option_rules.specs.Table.{binary, suppress_go_ahead, terminal_type, end_of_record, new_environ, choose, carried}
 use Rattle.option_sides.specs.Session.{of_pair, in_pair, pair_at, with_pair, side_at, with_side, SetsOne}
-use Rattle.octets.specs.Choice.{if◌then◌else◌}
 use Rattle.octets.proofs.Choice.{choice}
 
 -- what holds for each of the five, and where it is none of them, holds for the one that is chosen

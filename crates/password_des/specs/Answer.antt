@@ -1,7 +1,6 @@
 -- A token or a substitute, or the refusal of a bad profile name, and after that of a bad
 -- password. Names and passwords are given in ASCII, seeds as numbers of eight bytes.
-use Rattle.std.specs.Prelude.{ℕ, not, List}
-use Rattle.octets.specs.Choice.{if◌then◌else◌}
+use Rattle.std.specs.Prelude.{ℕ, not, List, if◌then◌else◌}
 use Rattle.refusal.specs.Refusal.{bad_profile_name, bad_password}
 use Rattle.refusal.specs.RefusedBy.{Refusal, no_refusal, refused_by}
 use Rattle.names.specs.Name.{is_name, profile_limit}

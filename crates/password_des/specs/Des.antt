@@ -1,8 +1,7 @@
 -- DES password substitutes: RFC 4777, section 5.1, in its own names (with - for _) and the order of its steps.
 -- Passwords and user identifiers are lists of EBCDIC bytes, raised; a block of eight bytes is one number, its first
 -- byte the highest, as in the crate `des`, which has the cipher; steps 2 and 3 are in `des_schedule`.
-use Rattle.std.specs.Prelude.{ℕ, ◌+◌, ◌-◌, ◌*◌, ◌/◌, ◌%◌, ◌^◌, ltb, List, [], ◌∷◌, map, length, take, drop, bit_xor, nat_lt, slice_index}
-use Rattle.octets.specs.Choice.{if◌then◌else◌}
+use Rattle.std.specs.Prelude.{ℕ, ◌+◌, ◌-◌, ◌*◌, ◌/◌, ◌%◌, ◌^◌, ltb, List, [], ◌∷◌, map, length, take, drop, bit_xor, nat_lt, slice_index, if◌then◌else◌}
 use Rattle.words.specs.BigEndian.{number}
 use Rattle.words.specs.Word.{sum}
 use Rattle.names.specs.Padding.{filled}

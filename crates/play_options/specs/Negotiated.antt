@@ -2,8 +2,7 @@
 -- order of RFC 4777, section 10's exchange between server and client. "Both the client and server must agree to support
 -- at least the Transmit-Binary, End-Of-Record, and Terminal-Type Telnet options" (section 9); NEW-ENVIRON comes first
 -- (section 3).
-use Rattle.std.specs.Prelude.{◌≡◌, ℕ, Bool, true, ◌&&◌, List, [], ◌∷◌, leb, length}
-use Rattle.octets.specs.Choice.{if◌then◌else◌}
+use Rattle.std.specs.Prelude.{◌≡◌, ℕ, Bool, true, ◌&&◌, List, [], ◌∷◌, leb, length, if◌then◌else◌}
 use Rattle.octets.specs.Lent.{overwrite}
 use Rattle.telnet.specs.declared.Verb.TheVariants.{Will, Do}
 use Rattle.telnet.specs.Event.{Event, negotiation}

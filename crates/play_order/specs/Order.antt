@@ -1,7 +1,6 @@
 -- An order on the line, what the printer's ledger has of it, and what goes back (RFC 4777, section 11).
-use Rattle.std.specs.Prelude.{◌≡◌, ℕ, true, List, [], ◌∷◌, ◌++◌, replicate}
+use Rattle.std.specs.Prelude.{◌≡◌, ℕ, true, List, [], ◌∷◌, ◌++◌, replicate, if◌then◌else◌}
 use Rattle.octets.specs.Ascii.{ascii}
-use Rattle.octets.specs.Choice.{if◌then◌else◌}
 use Rattle.octets.specs.Lent.{Outcome, outcome}
 use Rattle.octets.specs.Part.{part}
 use Rattle.telnet.specs.declared.Verb.TheVariants.{Do}

@@ -1,5 +1,6 @@
 -- Each refusal of a frame is given exactly where its sentence holds and none before it does: each test of `frame_of`
 -- says its sentence, and the walk through the tests finds the first that holds. Assumes nothing.
+use Rattle.std.specs.Prelude.{if◌then◌else◌}
 use mathlib.Core.Path.{◌≡◌, refl, sym, ap, subst, ◌∙◌}
 use mathlib.Core.Bool.{Bool, true, false, not, ◌||◌}
 use mathlib.Core.List.{List, [], ◌∷◌}
@@ -12,7 +13,6 @@ use lib.ListN.{length, get_or}
 use mir.Facts.{or_yes}
 use denote.Floats.{passes}
 use Rattle.octets.specs.Bytes.{Bytes}
-use Rattle.octets.specs.Choice.{if◌then◌else◌}
 use Rattle.octets.proofs.Choice.{choice}
 use Rattle.octets.proofs.Order.{below-or-above}
 use Rattle.print_frame.specs.declared.Frame.{Frame}

@@ -1,6 +1,6 @@
 -- Printer pass-through frames (RFC 4777, section 11, figure 3; specification, "Printer frames"). A frame is a list of
 -- bytes. Bytes and bits are numbered as there, from 0, and bit 0 of a byte is its high bit.
-use Rattle.std.specs.Prelude.{ℕ, ◌+◌, ◌-◌, ◌*◌, ◌/◌, ◌%◌, ◌^◌, Bool, true, false, not, ◌||◌, List, eqb, ltb, length, get_or}
+use Rattle.std.specs.Prelude.{ℕ, ◌+◌, ◌-◌, ◌*◌, ◌/◌, ◌%◌, ◌^◌, Bool, true, false, not, ◌||◌, List, eqb, ltb, length, get_or, if◌then◌else◌}
 use Rattle.print_frame.specs.declared.Direction.{Direction}
 use Rattle.print_frame.specs.declared.Direction.TheVariants.{Outbound, Inbound}
 use Rattle.print_frame.specs.declared.Operation.{Operation}
@@ -12,7 +12,6 @@ use Rattle.print_frame.specs.declared.FrameAnswer.{FrameAnswer}
 use Rattle.print_frame.specs.declared.FrameAnswer.TheVariants.{Read, Refused}
 use Rattle.refusal.specs.Refusal.{bad_frame_length, bad_record_type, bad_data_flow, bad_header_length, reserved_flag, bad_operation}
 use Rattle.refusal.specs.RefusedBy.{Refusal, no_refusal, refused_by}
-use Rattle.octets.specs.Choice.{if◌then◌else◌}
 
 -- the byte at a place
 abbrev pub byte : List ℕ → ℕ → ℕ

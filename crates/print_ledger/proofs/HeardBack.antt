@@ -1,5 +1,6 @@
 -- Every list of calls from fresh is heard back as `Theorems.HeardBack` says, by induction on the list: each call keeps
 -- the balance of what was accepted with what was completed, cleared and is held. Assumes nothing.
+use Rattle.std.specs.Prelude.{if◌then◌else◌}
 use mathlib.Core.Path.{◌≡◌, refl}
 use mathlib.Core.Bool.{Bool, true, false, not, ◌&&◌}
 use mathlib.Core.Logic.{◌↔◌}
@@ -8,7 +9,6 @@ use Prim.Native.Nat.{ℕ, ◌+◌, ◌≤◌}
 use native.Mathlib.Omega.{arith}
 use lib.Dec.{T, eqb}
 use lib.ListN.{length}
-use Rattle.octets.specs.Choice.{if◌then◌else◌}
 use Rattle.octets.specs.Lent.{Outcome, overwrite}
 use Rattle.octets.proofs.Promise.{front-either}
 use Rattle.refusal.specs.RefusedBy.{is_refused}

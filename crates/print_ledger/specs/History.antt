@@ -1,7 +1,7 @@
 -- The history of a ledger: any calls of it, one after the other, each on what the one before handed back. What is
 -- counted is counted from the list of calls (specification, "Printer frames"): what a call asks is read from its bytes,
 -- and whether it is refused from its answer. `Theorems.antt` says what holds of every history.
-use Rattle.std.specs.Prelude.{ℕ, ◌+◌, Bool, true, false, not, ◌&&◌, List, [], ◌∷◌, eqb}
+use Rattle.std.specs.Prelude.{ℕ, ◌+◌, Bool, true, false, not, ◌&&◌, List, [], ◌∷◌, eqb, if◌then◌else◌}
 use Rattle.print_frame.specs.declared.Direction.{Direction}
 use Rattle.print_frame.specs.declared.Direction.TheVariants.{Outbound, Inbound}
 use Rattle.print_frame.specs.declared.Operation.{Operation}
@@ -12,7 +12,6 @@ use Rattle.print_frame.specs.Frame.{operation_code, frame_of}
 use Rattle.print_ledger.specs.declared.Ledger.{Ledger}
 use Rattle.print_ledger.specs.Ledger.{fresh, take_frame, complete_into, receipt_refusal, completion_refusal}
 use Rattle.refusal.specs.RefusedBy.{is_refused}
-use Rattle.octets.specs.Choice.{if◌then◌else◌}
 
 -- a frame given to the ledger, or a completion with the output that is lent to it
 pub data Call : Type 0 where

@@ -1,6 +1,6 @@
 -- The print ledger (specification, "Printer frames"). "Ledger" is the specification's own term, and so is "record" for
 -- what it holds: the print record of RFC 4777, section 11.1. The ledger keeps that one is held, not its bytes.
-use Rattle.std.specs.Prelude.{ℕ, true, false, not, List, [], ◌∷◌}
+use Rattle.std.specs.Prelude.{ℕ, true, false, not, List, [], ◌∷◌, if◌then◌else◌}
 use Rattle.print_frame.specs.declared.Direction.TheVariants.{Outbound, Inbound}
 use Rattle.print_frame.specs.declared.Operation.TheVariants.{Print, Clear}
 use Rattle.print_frame.specs.declared.Frame.{Frame}
@@ -16,7 +16,6 @@ use Rattle.print_ledger.specs.declared.Completed.{Completed}
 use Rattle.print_frame.specs.Frame.{frame_of}
 use Rattle.refusal.specs.Refusal.{no_room, record_held, none_held, inbound_frame}
 use Rattle.refusal.specs.RefusedBy.{Refusal, no_refusal, refused_by}
-use Rattle.octets.specs.Choice.{if◌then◌else◌}
 use Rattle.octets.specs.Lent.{Outcome, outcome}
 use Rattle.octets.specs.Promise.{write_front}
 

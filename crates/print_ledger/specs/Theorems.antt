@@ -1,6 +1,6 @@
 -- What holds of every history of a ledger from fresh, and of the print complete record: on the line, and as a frame.
 -- The proofs are in `proofs/HeardBack.antt` and `proofs/OnTheLine.antt`.
-use Rattle.std.specs.Prelude.{◌≡◌, false, not, ◌↔◌, List, [], ◌∷◌, ◌++◌, ℕ, ◌+◌, ◌≤◌, ◌<◌, T, length}
+use Rattle.std.specs.Prelude.{◌≡◌, false, not, ◌↔◌, List, [], ◌∷◌, ◌++◌, ℕ, ◌+◌, ◌≤◌, ◌<◌, T, length, if◌then◌else◌}
 use Rattle.print_frame.specs.declared.Direction.TheVariants.{Inbound}
 use Rattle.print_frame.specs.declared.Operation.TheVariants.{Print}
 use Rattle.print_frame.specs.declared.FrameAnswer.TheVariants.{Read}
@@ -11,7 +11,6 @@ use Rattle.print_ledger.specs.History.{accepts, completes, count_calls, run, acc
 use Rattle.telnet.specs.Event.{run as data_run, command, eor}
 use Rattle.telnet.specs.Write.{written_all}
 use Rattle.telnet.specs.Record.{record_of, complete}
-use Rattle.octets.specs.Choice.{if◌then◌else◌}
 use Rattle.octets.specs.Lent.{overwrite}
 
 -- What is heard back after some calls, refused ones among them, and what the next call does. It is said of every list

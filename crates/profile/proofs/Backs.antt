@@ -1,4 +1,5 @@
 -- What is read without refusal was written: the theorem `Theorems.TablesWrittenBack`. Assumes nothing.
+use Rattle.std.specs.Prelude.{if◌then◌else◌}
 use mathlib.Core.Path.{◌≡◌, refl, sym, ap, subst, ◌∙◌}
 use mathlib.Core.Bool.{Bool, true, false, not, ◌&&◌}
 use mathlib.Core.List.{List, [], ◌∷◌, ◌++◌, map}
@@ -11,7 +12,6 @@ use borrow.Author.Tests.{eqb-true, eqb-false, not-false}
 use mir.Facts.{and_yes}
 use denote.Floats.{passes}
 use Rattle.octets.specs.Bytes.{Bytes}
-use Rattle.octets.specs.Choice.{if◌then◌else◌}
 use Rattle.octets.proofs.Choice.{choice}
 use Rattle.names.specs.Name.{is_raised_name, profile_limit}
 use Rattle.names.specs.Order.{precedes}

@@ -1,4 +1,5 @@
 -- A record at the front of bytes: what is written is read there, and what is read there was written. Assumes nothing.
+use Rattle.std.specs.Prelude.{if◌then◌else◌}
 use mathlib.Core.Path.{◌≡◌, refl, sym, ap, ap₂, ◌∙◌}
 use mathlib.Core.Bool.{Bool, true, false, ◌&&◌}
 use mathlib.Core.List.{List, [], ◌∷◌, ◌++◌, map, append_assoc}
@@ -11,7 +12,6 @@ use lib.Seq.{take-append_seam, drop-append_seam}
 use borrow.Author.Tests.{lt-ltb, le-leb, eq-eqb}
 use mir.Facts.{and_yes, yes_and}
 use denote.Floats.{passes}
-use Rattle.octets.specs.Choice.{if◌then◌else◌}
 use Rattle.names.specs.Range.{every}
 use Rattle.names.specs.Name.{is_name_byte, is_raised_name, profile_limit}
 use Rattle.words.specs.BigEndian.{number, bytes}

@@ -1,6 +1,5 @@
 -- The profile of a name.
-use Rattle.std.specs.Prelude.{ℕ, List, [], ◌∷◌}
-use Rattle.octets.specs.Choice.{if◌then◌else◌}
+use Rattle.std.specs.Prelude.{ℕ, List, [], ◌∷◌, if◌then◌else◌}
 use Rattle.octets.specs.Same.{same}
 use Rattle.profile.specs.Profile.{Profile}
 

@@ -1,9 +1,8 @@
 -- A profile and its record (specification, "Tokens, substitutes, verdicts", "Profile table"): "a two-byte big-endian
 -- length of what follows (30 + n), flags (01X enabled, 02X DES allowed, others 0), n from 1 to 10, the raised name in
 -- ASCII, 8-byte DES token, 20-byte SHA-1 token".
-use Rattle.std.specs.Prelude.{ℕ, zero, suc, ◌+◌, ◌*◌, ◌/◌, ◌%◌, Bool, false, List, [], ◌∷◌, ◌++◌, eqb, length, get_or, take, drop}
+use Rattle.std.specs.Prelude.{ℕ, zero, suc, ◌+◌, ◌*◌, ◌/◌, ◌%◌, Bool, false, List, [], ◌∷◌, ◌++◌, eqb, length, get_or, take, drop, if◌then◌else◌}
 use Rattle.words.specs.BigEndian.{bytes}
-use Rattle.octets.specs.Choice.{if◌then◌else◌}
 
 -- What a version of the table says of a record: how many of the flags are used, from the lowest on, and how long each
 -- token is.

@@ -1,10 +1,9 @@
 -- The profile table: "one version byte 1, then records", their names strictly ascending, at most 500 (specification,
 -- "Profile table" and "Refusal numbers" 30 to 32: 30 by the first byte alone, then record by record 31 before 32).
-use Rattle.std.specs.Prelude.{ℕ, zero, suc, ◌+◌, ◌^◌, Bool, not, ◌&&◌, List, [], ◌∷◌, ◌++◌, eqb, leb, ltb, length, get_or, take, drop}
+use Rattle.std.specs.Prelude.{ℕ, zero, suc, ◌+◌, ◌^◌, Bool, not, ◌&&◌, List, [], ◌∷◌, ◌++◌, eqb, leb, ltb, length, get_or, take, drop, if◌then◌else◌}
 use Rattle.names.specs.Name.{is_raised_name, profile_limit}
 use Rattle.names.specs.Order.{precedes}
 use Rattle.words.specs.BigEndian.{number}
-use Rattle.octets.specs.Choice.{if◌then◌else◌}
 use Rattle.refusal.specs.Refusal.{bad_table, bad_profile, profiles_not_ascending}
 use Rattle.profile.specs.Profile.{Shape, shape_of, Profile, marks_of, tokens_of, body_length, record_length, record_bytes}
 

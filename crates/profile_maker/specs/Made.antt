@@ -1,8 +1,7 @@
 -- The profile of the token maker (specification, "Profile table"): "takes a name, a password and two yes-or-no marks,
 -- enabled and DES allowed, and writes one record; it clears 02X and writes a zero DES token where the password has
 -- none". Names and passwords are lists of ASCII bytes.
-use Rattle.std.specs.Prelude.{ℕ, Bool, ◌&&◌, List, [], ◌∷◌, replicate}
-use Rattle.octets.specs.Choice.{if◌then◌else◌}
+use Rattle.std.specs.Prelude.{ℕ, Bool, ◌&&◌, List, [], ◌∷◌, replicate, if◌then◌else◌}
 use Rattle.words.specs.BigEndian.{bytes}
 use Rattle.names.specs.Name.{raised, is_name}
 use Rattle.names.specs.Ebcdic.{ebcdic_of}

@@ -1,6 +1,5 @@
 -- What the token maker answers, and what it leaves in the buffer that it is lent: 33 before 34, and 4 last.
-use Rattle.std.specs.Prelude.{not, List, ℕ}
-use Rattle.octets.specs.Choice.{if◌then◌else◌}
+use Rattle.std.specs.Prelude.{not, List, ℕ, if◌then◌else◌}
 use Rattle.octets.specs.Lent.{Outcome, outcome}
 use Rattle.refusal.specs.declared.Written.{Written}
 use Rattle.refusal.specs.declared.Written.TheVariants.{Refused}

@@ -1,7 +1,6 @@
 -- The step from one record of a table to the next (specification, "Refusal numbers" 31 and 32: record by record 31
 -- before 32).
-use Rattle.std.specs.Prelude.{ℕ, not, List, leb}
-use Rattle.octets.specs.Choice.{if◌then◌else◌}
+use Rattle.std.specs.Prelude.{ℕ, not, List, leb, if◌then◌else◌}
 use Rattle.refusal.specs.Refusal.{bad_profile, profiles_not_ascending}
 use Rattle.names.specs.Order.{precedes}
 use Rattle.profile.specs.Profile.{Shape}

@@ -1,4 +1,5 @@
 -- A whole table: its version, what its scan says of the count, and names that are in no table. Assumes nothing.
+use Rattle.std.specs.Prelude.{if◌then◌else◌}
 use mathlib.Core.Path.{◌≡◌, refl, sym, ap, subst, ◌∙◌}
 use mathlib.Core.Bool.{Bool, true, false}
 use mathlib.Core.List.{List, [], ◌∷◌}
@@ -10,7 +11,6 @@ use denote.Floats.{passes, is_true}
 use lib.Dec.{T}
 use lib.ListN.{length, get_or, take, drop}
 use Rattle.octets.specs.Bytes.{Bytes}
-use Rattle.octets.specs.Choice.{if◌then◌else◌}
 use Rattle.octets.specs.Same.{same}
 use Rattle.octets.proofs.Choice.{choice}
 use Rattle.octets.proofs.Equality.{same-sound}

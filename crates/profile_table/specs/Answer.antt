@@ -1,6 +1,5 @@
 -- What the functions of this crate answer about a table, by what the table says (`profile`, `specs/Table.antt`).
-use Rattle.std.specs.Prelude.{ℕ, ◌+◌, List, [], ◌∷◌, length}
-use Rattle.octets.specs.Choice.{if◌then◌else◌}
+use Rattle.std.specs.Prelude.{ℕ, ◌+◌, List, [], ◌∷◌, length, if◌then◌else◌}
 use Rattle.octets.specs.Same.{same}
 use Rattle.profile.specs.Profile.{Profile, enabled, des_allowed, record_bytes}
 use Rattle.profile.specs.Table.{TableReading, profiles, table_refused}

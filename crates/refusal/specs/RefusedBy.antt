@@ -1,6 +1,5 @@
 -- The number that an answer refuses by, for answers of every kind.
-use Rattle.std.specs.Prelude.{ℕ, Bool, true, false, eqb}
-use Rattle.octets.specs.Choice.{if◌then◌else◌}
+use Rattle.std.specs.Prelude.{ℕ, Bool, true, false, eqb, if◌then◌else◌}
 
 -- no refusal, or the number of one
 pub data Refusal : Type 0 where

@@ -1,9 +1,8 @@
 -- SHA-1 of a message of bytes, in the order of FIPS 180-4: sections 4.1.1, 4.2.1, 5.1.1, 5.2.1, 5.3.1 and 6.1.2. Words
 -- have 32 bits; sums, rotations, Ch, Parity, Maj, padding and cutting are those of the crate `words`, which has them
 -- over the sizes.
-use Rattle.std.specs.Prelude.{ℕ, zero, suc, ◌-◌, List, [], ◌∷◌, ◌++◌, ltb, length, get_or}
+use Rattle.std.specs.Prelude.{ℕ, zero, suc, ◌-◌, List, [], ◌∷◌, ◌++◌, ltb, length, get_or, if◌then◌else◌}
 use Rattle.std.specs.Int.Bits.{bit_xor}
-use Rattle.octets.specs.Choice.{if◌then◌else◌}
 use Rattle.words.specs.Word.{sum, rotl, Ch, Parity, Maj}
 use Rattle.words.specs.BigEndian.{bytes}
 use Rattle.words.specs.Blocks.{cut, words_of}

@@ -1,6 +1,5 @@
 -- Bytes as hexadecimal digits in ASCII, two a byte, the higher first.
-use Rattle.std.specs.Prelude.{ℕ, ◌+◌, ◌*◌, ◌/◌, ◌%◌, true, false, List, [], ◌∷◌, ◌++◌, ltb}
-use Rattle.octets.specs.Choice.{if◌then◌else◌}
+use Rattle.std.specs.Prelude.{ℕ, ◌+◌, ◌*◌, ◌/◌, ◌%◌, true, false, List, [], ◌∷◌, ◌++◌, ltb, if◌then◌else◌}
 
 -- the value of a digit, of either case; some value for every other byte
 unfoldable pub digit_value : ℕ → ℕ

@@ -1,6 +1,5 @@
 -- Bytes put into a buffer: all of them, or none.
-use Rattle.std.specs.Prelude.{ℕ, ◌+◌, List, leb, length}
-use Rattle.octets.specs.Choice.{if◌then◌else◌}
+use Rattle.std.specs.Prelude.{ℕ, ◌+◌, List, leb, length, if◌then◌else◌}
 use Rattle.octets.specs.Lent.{Outcome, outcome, overwrite}
 use Rattle.octets.specs.Promise.{write_front}
 use Rattle.show.specs.Hex.{hex_bytes}

@@ -1,6 +1,5 @@
 -- Lines of a text, and of a line what comes before and after its colon.
-use Rattle.std.specs.Prelude.{ℕ, ◌+◌, List, Bool, ltb, eqb, length, drop}
-use Rattle.octets.specs.Choice.{if◌then◌else◌}
+use Rattle.std.specs.Prelude.{ℕ, ◌+◌, List, Bool, ltb, eqb, length, drop, if◌then◌else◌}
 use Rattle.octets.specs.Find.{up_to}
 
 -- what is there from a place on before the next end of a line, LF; all that is left where there is none

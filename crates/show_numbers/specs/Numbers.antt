@@ -1,6 +1,5 @@
 -- Numbers of two bytes, the higher first, and what the functions of this crate promise.
-use Rattle.std.specs.Prelude.{ℕ, ◌+◌, ◌*◌, List, [], ◌∷◌, eqb}
-use Rattle.octets.specs.Choice.{if◌then◌else◌}
+use Rattle.std.specs.Prelude.{ℕ, ◌+◌, ◌*◌, List, [], ◌∷◌, eqb, if◌then◌else◌}
 use Rattle.octets.specs.Lent.{Outcome}
 use Rattle.octets.specs.Promise.{write_front}
 

@@ -1,5 +1,6 @@
 -- The reason that is given is the first that holds, and its verdict is the one that is given (`specs/ReasonTheorems.antt`).
 -- Assumes nothing.
+use Rattle.std.specs.Prelude.{if◌then◌else◌}
 use mathlib.Core.Path.{◌≡◌, refl, sym, ap, subst, ◌∙◌}
 use mathlib.Core.Bool.{Bool, true, false, not, ◌&&◌, ◌||◌}
 use mathlib.Core.List.{List, [], ◌∷◌, ◌++◌, map}
@@ -11,7 +12,6 @@ use lib.ListN.{length}
 use mir.Facts.{and_yes, or_yes}
 use denote.Floats.{passes, is_true}
 use borrow.Author.Tests.{eq-eqb, not-false}
-use Rattle.octets.specs.Choice.{if◌then◌else◌}
 use Rattle.octets.proofs.Choice.{choice, choice₂}
 use Rattle.env.specs.Variable.{Lookup, absent, present, value_or}
 use Rattle.env.specs.Read.{Reading, says, not_read, reading_of}

@@ -1,4 +1,5 @@
 -- The verdict's sentence holds, and no two sentences hold at once. Assumes nothing.
+use Rattle.std.specs.Prelude.{if◌then◌else◌}
 use mathlib.Core.Path.{◌≡◌, refl, sym, ap, subst, ◌∙◌}
 use mathlib.Core.Bool.{Bool, true, false, not, ◌&&◌}
 use mathlib.Core.List.{List, [], ◌∷◌, ◌++◌}
@@ -9,7 +10,6 @@ use lib.Dec.{T}
 use lib.ListN.{length}
 use denote.Floats.{passes, is_true}
 use borrow.Author.Tests.{not-true, not-false}
-use Rattle.octets.specs.Choice.{if◌then◌else◌}
 use Rattle.octets.proofs.Choice.{choice}
 use Rattle.env.specs.Variable.{Variable, VAR, USERVAR, repeated, Lookup, absent, present, lookup, value_or}
 use Rattle.names.specs.Name.{raised, is_name, is_raised_name, profile_limit}

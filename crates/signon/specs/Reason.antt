@@ -3,9 +3,8 @@
 -- password malformed; token differs; granted. The reason given is .. the first that holds in that order, and each
 -- reason belongs to one verdict only." Each condition is stated by itself: a later one may hold where an earlier one
 -- does.
-use Rattle.std.specs.Prelude.{ℕ, Bool, true, not, ◌&&◌, ◌||◌, List, [], ◌∷◌, ◌++◌, eqb, length}
+use Rattle.std.specs.Prelude.{ℕ, Bool, true, not, ◌&&◌, ◌||◌, List, [], ◌∷◌, ◌++◌, eqb, length, if◌then◌else◌}
 use Rattle.octets.specs.Ascii.{ascii}
-use Rattle.octets.specs.Choice.{if◌then◌else◌}
 use Rattle.refusal.specs.Refusal.{bad_server_seed}
 use Rattle.env.specs.Variable.{present, value_or}
 use Rattle.env.specs.Read.{Reading, says, not_read, reading_of}

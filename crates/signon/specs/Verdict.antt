@@ -1,6 +1,5 @@
 -- The verdict (specification, "Verdict, first that holds"), and the order of refusals: 35, 30 to 32, 3, 20 to 25.
-use Rattle.std.specs.Prelude.{ℕ, Bool, true, not, ◌&&◌, List, [], ◌∷◌, map, eqb, length}
-use Rattle.octets.specs.Choice.{if◌then◌else◌}
+use Rattle.std.specs.Prelude.{ℕ, Bool, true, not, ◌&&◌, List, [], ◌∷◌, map, eqb, length, if◌then◌else◌}
 use Rattle.refusal.specs.Refusal.{bad_server_seed}
 use Rattle.env.specs.Variable.{value_or}
 use Rattle.env.specs.Read.{Reading, says, not_read, reading_of}

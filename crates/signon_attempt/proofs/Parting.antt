@@ -1,9 +1,9 @@
 -- What each test of the code says of the reason, and that the two parts make the whole. Assumes nothing.
+use Rattle.std.specs.Prelude.{if◌then◌else◌}
 use mathlib.Core.Path.{◌≡◌, refl, sym, ap, ◌∙◌}
 use mathlib.Core.Bool.{true, false, not}
 use mathlib.Core.List.{List}
 use Prim.Native.Nat.{ℕ}
-use Rattle.octets.specs.Choice.{if◌then◌else◌}
 use Rattle.octets.proofs.Choice.{choice₂}
 use Rattle.env.specs.Variable.{Variable, lookup, value_or}
 use Rattle.env.specs.Numbers.{variables_held}

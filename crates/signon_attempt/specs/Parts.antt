@@ -1,7 +1,6 @@
 -- The reason in two parts: what needs no profile, and what a profile gives once it is found. Both are cut from the list
 -- of `signon/specs/Reason.antt`.
-use Rattle.std.specs.Prelude.{ℕ, List, [], ◌∷◌}
-use Rattle.octets.specs.Choice.{if◌then◌else◌}
+use Rattle.std.specs.Prelude.{ℕ, List, [], ◌∷◌, if◌then◌else◌}
 use Rattle.env.specs.Variable.{Variable, VAR, lookup, value_or}
 use Rattle.profile.specs.Profile.{Profile}
 use Rattle.profile.specs.Lookup.{ProfileLookup, no_profile, one_profile}

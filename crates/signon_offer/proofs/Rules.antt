@@ -1,5 +1,6 @@
 -- The reason by the code's tests: a clear seed, the lengths, and the offer against the token that it calls for. Assumes
 -- nothing.
+use Rattle.std.specs.Prelude.{if◌then◌else◌}
 use mathlib.Core.Path.{◌≡◌, refl, sym, ap, ◌∙◌}
 use mathlib.Core.Bool.{Bool, true, false, not}
 use mathlib.Core.List.{List, [], ◌∷◌}
@@ -8,7 +9,6 @@ use native.Mathlib.Omega.{arith}
 use borrow.Author.Tests.{ne_eqb}
 use denote.Floats.{passes}
 use lib.ListN.{length, replicate}
-use Rattle.octets.specs.Choice.{if◌then◌else◌}
 use Rattle.octets.specs.Same.{same}
 use Rattle.octets.proofs.Choice.{choice₂}
 use Rattle.octets.proofs.Equality.{same-differ}

@@ -1,9 +1,8 @@
 -- What the program `explain` prints (change request No. 1): "Its program reads, as the listing does, the 8-byte server
 -- seed, the table after its two-byte big-endian length and the payload, each cut where input ends, and prints one line:
 -- the reason in these words, or REFUSED n."
-use Rattle.std.specs.Prelude.{ℕ, List, ◌++◌, ltb, length, take, drop}
+use Rattle.std.specs.Prelude.{ℕ, List, ◌++◌, ltb, length, take, drop, if◌then◌else◌}
 use Rattle.octets.specs.Ascii.{ascii}
-use Rattle.octets.specs.Choice.{if◌then◌else◌}
 use Rattle.octets.specs.Decimal.{decimal}
 use Rattle.show_input.specs.Cut.{announced_in, left_after}
 use Rattle.password_check.specs.Gives.{seed_length}

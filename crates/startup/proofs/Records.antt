@@ -1,5 +1,6 @@
 -- Response records are right, and two are those that RFC 4777 prints: the theorems `Theorems.ResponsesAreRight` and
 -- `Theorems.Figures`. Assumes nothing.
+use Rattle.std.specs.Prelude.{if◌then◌else◌}
 use mathlib.Core.Path.{◌≡◌, refl, sym, ap, subst, ◌∙◌}
 use mathlib.Core.Bool.{Bool, true, false}
 use mathlib.Core.List.{List, [], ◌∷◌, ◌++◌, append_assoc}
@@ -13,7 +14,6 @@ use lib.ListN.{length, take, drop, replicate, length-map, length-drop}
 use lib.Seq.{drop-drop, take_at, drop_at}
 use Rattle.octets.specs.Ascii.{ascii}
 use Rattle.octets.specs.Same.{same}
-use Rattle.octets.specs.Choice.{if◌then◌else◌}
 use Rattle.octets.proofs.Choice.{choice}
 use Rattle.octets.proofs.Equality.{same-sound, same_refl}
 use Rattle.words.specs.BigEndian.{bytes}

@@ -1,8 +1,7 @@
 -- The start-up response record: RFC 4777, section 10, figures 1 and 2 (specification, "Response records").
-use Rattle.std.specs.Prelude.{ℕ, Bool, List, [], ◌∷◌, ◌++◌, replicate}
+use Rattle.std.specs.Prelude.{ℕ, Bool, List, [], ◌∷◌, ◌++◌, replicate, if◌then◌else◌}
 use Prim.Native.String.{String}
 use Rattle.octets.specs.Ascii.{ascii}
-use Rattle.octets.specs.Choice.{if◌then◌else◌}
 use Rattle.octets.specs.Same.{same}
 use Rattle.names.specs.Ebcdic.{blank, ebcdic_of}
 use Rattle.names.specs.Name.{device_limit, system_limit}

@@ -1,7 +1,6 @@
 -- What the writer of response records answers, and what it leaves in the buffer that it is lent: 36 for either name,
 -- and 4 last.
-use Rattle.std.specs.Prelude.{Bool, not, List, ℕ}
-use Rattle.octets.specs.Choice.{if◌then◌else◌}
+use Rattle.std.specs.Prelude.{Bool, not, List, ℕ, if◌then◌else◌}
 use Rattle.octets.specs.Lent.{Outcome, outcome}
 use Rattle.refusal.specs.declared.Written.{Written}
 use Rattle.refusal.specs.declared.Written.TheVariants.{Refused}

@@ -1,6 +1,7 @@
 -- A record is all data up to the next end-of-record, and reading goes on after it (`record-is-all-data`); written, it
 -- is read back (`record-reads-back`): the theorems `Theorems.RecordIsAllData` and `Theorems.RecordReadsBack`. Assumes
 -- nothing.
+use Rattle.std.specs.Prelude.{if◌then◌else◌}
 use mathlib.Core.Path.{◌≡◌, refl, sym, ap, ◌∙◌}
 use mathlib.Core.Bool.{Bool, true, false, not}
 use mathlib.Core.List.{List, [], ◌∷◌, ◌++◌, append-nil}
@@ -18,7 +19,6 @@ use Rattle.telnet.specs.Record.{is_end_of_record, data_of, Gathered, complete, w
 use Rattle.telnet.specs.Theorems.{all, read_on, all_data, RecordIsAllData, RecordReadsBack}
 use Rattle.telnet.proofs.Stretch.{at-command}
 use Rattle.telnet.proofs.Unroll.{run-read, unrolled}
-use Rattle.octets.specs.Choice.{if◌then◌else◌}
 
 same_reads : {es fs : List Event} {a b : Ending} → reads es a ≡ reads fs b → (es ≡ fs) × (a ≡ b)
 same_reads e = (ap (λ (r : Reading). r.events) e, ap (λ (r : Reading). r.ending) e)

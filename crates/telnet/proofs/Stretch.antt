@@ -1,5 +1,6 @@
 -- Bytes are a stretch of data, doubled, and what stops it (`stretch`); the reading goes through a doubled stretch as
 -- one piece (`absorb`). Assumes nothing.
+use Rattle.std.specs.Prelude.{if◌then◌else◌}
 use mathlib.Core.Path.{◌≡◌, refl, ap, ◌∙◌}
 use mathlib.Core.Bool.{Bool, true, false}
 use mathlib.Core.List.{List, [], ◌∷◌, ◌++◌, append-nil}
@@ -13,7 +14,6 @@ use Rattle.telnet.specs.Event.{Event, iac, payload_limit}
 use Rattle.telnet.specs.Write.{doubled}
 use Rattle.telnet.specs.Read.{data_run}
 use Rattle.telnet.specs.Whole.{Mode, data', iac_seen, payload, closing, goes, step_byte, grown, before, reading_from}
-use Rattle.octets.specs.Choice.{if◌then◌else◌}
 
 -- nothing, a 255 alone, or a 255 that is not doubled
 pub data Stopped : List ℕ → Type 0 where

@@ -1,5 +1,6 @@
 -- The whole reading, a step a byte, is the reading of one event after another (`unrolled`, the theorem
 -- `Theorems.Unrolled`). Assumes nothing.
+use Rattle.std.specs.Prelude.{if◌then◌else◌}
 use mathlib.Core.Path.{◌≡◌, refl, sym, ap, ◌∙◌, subst⁻¹}
 use mathlib.Core.Bool.{Bool, true, false}
 use mathlib.Core.List.{List, [], ◌∷◌, ◌++◌, append-nil, append_assoc}
@@ -21,7 +22,6 @@ use Rattle.telnet.specs.Theorems.{read_on, Unrolled}
 use Rattle.telnet.proofs.Stretch.{Stopped, at-end, at-iac, at-command, Stretched, stretch, after-stretch, doubled-append, absorb}
 use Rattle.telnet.proofs.Stretch.{absorbs-data, payload-read}
 use Rattle.refusal.specs.Refusal.{undoubled as undoubled_iac, payload_too_long, bad_command}
-use Rattle.octets.specs.Choice.{if◌then◌else◌}
 
 -- what is refused stays refused
 pub stays-failed : (n : ℕ) (bs : List ℕ) → reading_from (failed n) bs ≡ reads [] (refusal n)

@@ -1,13 +1,12 @@
 -- The events of a Telnet line as values that hold what they carry (specification, "Framing"; RFC 854, "TELNET COMMAND
 -- STRUCTURE"; RFC 855; RFC 885). Numbers stand for bytes.
-use Rattle.std.specs.Prelude.{ℕ, ◌||◌, List, [], eqb, ltb}
+use Rattle.std.specs.Prelude.{ℕ, ◌||◌, List, [], eqb, ltb, if◌then◌else◌}
 use Rattle.telnet.specs.declared.Verb.{Verb}
 use Rattle.telnet.specs.declared.Verb.TheVariants.{Will, Wont, Do, Dont}
 use Rattle.telnet.specs.declared.Lead.{Lead}
 use Rattle.telnet.specs.declared.Lead.TheVariants.{Faulty, Opens, Negotiates, Simple}
 use Rattle.telnet.specs.declared.Kind.{Kind}
 use Rattle.telnet.specs.declared.Kind.TheVariants.{Data, Command, Negotiation, Subnegotiation}
-use Rattle.octets.specs.Choice.{if◌then◌else◌}
 
 -- IAC, "interpret as command", which is doubled where it is data
 abbrev pub iac : ℕ

@@ -1,12 +1,11 @@
 -- Reading one event (specification, "Framing" and the framing part of "Refusal numbers").
-use Rattle.std.specs.Prelude.{ℕ, List, [], ◌∷◌, eqb, ltb, length, drop}
+use Rattle.std.specs.Prelude.{ℕ, List, [], ◌∷◌, eqb, ltb, length, drop, if◌then◌else◌}
 use Rattle.telnet.specs.declared.Verb.{Verb}
 use Rattle.telnet.specs.declared.Lead.{Lead}
 use Rattle.telnet.specs.declared.Lead.TheVariants.{Faulty, Opens, Negotiates, Simple}
 use Rattle.telnet.specs.Event.{Event, run, command, negotiation, subnegotiation, lead, iac, se, payload_limit}
 use Rattle.telnet.specs.Write.{doubled}
 use Rattle.refusal.specs.Refusal.{cut_short, undoubled as undoubled_iac, payload_too_long, bad_command}
-use Rattle.octets.specs.Choice.{if◌then◌else◌}
 
 unfoldable mutual
   -- the longest stretch of data at the front, with each doubled 255 made one: it ends before a 255 that is not doubled

@@ -1,10 +1,9 @@
 -- Records: all data between two end-of-record events (specification, "Framing"; RFC 885). "Record" is the
 -- specification's own term.
-use Rattle.std.specs.Prelude.{ℕ, ◌+◌, Bool, false, List, [], ◌∷◌, ◌++◌, eqb, length}
+use Rattle.std.specs.Prelude.{ℕ, ◌+◌, Bool, false, List, [], ◌∷◌, ◌++◌, eqb, length, if◌then◌else◌}
 use Rattle.telnet.specs.Event.{Event, run, command, negotiation, subnegotiation, eor}
 use Rattle.telnet.specs.Write.{written}
 use Rattle.telnet.specs.Whole.{Ending, reading}
-use Rattle.octets.specs.Choice.{if◌then◌else◌}
 
 -- 255 239
 unfoldable pub is_end_of_record : Event → Bool

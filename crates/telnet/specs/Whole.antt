@@ -1,12 +1,11 @@
 -- The whole reading of a stream: its events in order, and how it ended. It takes one step for each byte, so that a
 -- stream may be cut anywhere; `Theorems.Unrolled` says that it is the reading of one event after another.
-use Rattle.std.specs.Prelude.{ℕ, List, [], ◌∷◌, ◌++◌, eqb, ltb, length}
+use Rattle.std.specs.Prelude.{ℕ, List, [], ◌∷◌, ◌++◌, eqb, ltb, length, if◌then◌else◌}
 use Rattle.telnet.specs.declared.Verb.{Verb}
 use Rattle.telnet.specs.declared.Lead.{Lead}
 use Rattle.telnet.specs.declared.Lead.TheVariants.{Faulty, Opens, Negotiates, Simple}
 use Rattle.telnet.specs.Event.{Event, run, command, negotiation, subnegotiation, lead, iac, se, payload_limit}
 use Rattle.refusal.specs.Refusal.{cut_short, undoubled as undoubled_iac, payload_too_long, bad_command}
-use Rattle.octets.specs.Choice.{if◌then◌else◌}
 
 -- how a reading ended: at the end of the bytes, or by a refusal
 pub data Ending : Type 0 where

@@ -1,8 +1,7 @@
 -- Writing events (specification, "Framing", "The writer is the inverse"; RFC 854: "IAC .. must be doubled" as data; RFC
 -- 855: and in parameters).
-use Rattle.std.specs.Prelude.{ℕ, Bool, true, false, ◌&&◌, ◌||◌, List, [], ◌∷◌, ◌++◌, eqb, leb, length}
+use Rattle.std.specs.Prelude.{ℕ, Bool, true, false, ◌&&◌, ◌||◌, List, [], ◌∷◌, ◌++◌, eqb, leb, length, if◌then◌else◌}
 use Rattle.telnet.specs.Event.{Event, run, command, negotiation, subnegotiation, iac, sb, se, eor, code, payload_limit}
-use Rattle.octets.specs.Choice.{if◌then◌else◌}
 
 -- bytes as the line carries them: each 255 twice
 unfoldable pub doubled : List ℕ → List ℕ

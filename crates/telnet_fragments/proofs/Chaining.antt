@@ -1,5 +1,6 @@
 -- The calls as the code answers them are the calls of the definition (`told`), and so take the stream
 -- (`takes-the-stream`) and end in its mode (`ends-in-its-mode`). Assumes nothing.
+use Rattle.std.specs.Prelude.{if◌then◌else◌}
 use mathlib.Core.Path.{◌≡◌, refl, sym, ap, ◌∙◌}
 use mathlib.Core.Bool.{Bool, true, false}
 use mathlib.Core.Logic.{inl, inr}
@@ -25,7 +26,6 @@ use Rattle.telnet_fragments.specs.Chain.{Made, Promised, found, left_in, gave, g
 use Rattle.telnet_fragments.specs.Theorems.{TakesTheStream, mode_after, EndsInItsMode}
 use Rattle.telnet_fragments.proofs.Cuts.{in_front, after_call, called-within, called-read, called-mode, mode-after-rested, mode-after-append, Sound, called-sound, run-joined, event-joined, nothing-kept}
 use Rattle.telnet_fragments.proofs.Steps.{Reached, at-data, at-iac-seen, at-choosing, at-opening, at-payload, at-closing, at-failed, Single, reached-rested}
-use Rattle.octets.specs.Choice.{if◌then◌else◌}
 use Rattle.octets.specs.Lent.{Outcome, outcome, overwrite}
 use Rattle.octets.proofs.Overwrite.{overwrite-front}
 use Rattle.refusal.specs.Refusal.{no_room}

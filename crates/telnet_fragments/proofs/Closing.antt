@@ -1,5 +1,6 @@
 -- How calls stand and close, by how the whole reading ends (`closes-alike`), and that two cuts of one stream are alike
 -- (`however-cut`). Assumes nothing.
+use Rattle.std.specs.Prelude.{if◌then◌else◌}
 use mathlib.Core.Path.{◌≡◌, refl, sym, ap, ◌∙◌}
 use mathlib.Core.Bool.{true}
 use mathlib.Core.Logic.{◌↔◌}
@@ -19,7 +20,6 @@ use Rattle.telnet_fragments.specs.Promise.{fault_number, standing, mode_of, fres
 use Rattle.telnet_fragments.specs.Chain.{Made, found, took_all, last_reader, last_kept, end_mode}
 use Rattle.telnet_fragments.specs.Theorems.{mode_after, is_waiting, ClosesAlike, HoweverCut, Follows}
 use Rattle.telnet_fragments.proofs.Chaining.{takes-the-stream, ends-in-its-mode}
-use Rattle.octets.specs.Choice.{if◌then◌else◌}
 use Rattle.refusal.specs.Refusal.{cut_short}
 
 -- how a reader's mode ends: its number, 0 where it ends well

@@ -1,5 +1,6 @@
 -- A call and what is read after it are what is read at once (`called-read`), and what calls leave (`called-sound`,
 -- `called-mode`). Assumes nothing.
+use Rattle.std.specs.Prelude.{if◌then◌else◌}
 use mathlib.Core.Path.{◌≡◌, refl, sym, ap, ◌∙◌}
 use mathlib.Core.Bool.{Bool, true, false}
 use mathlib.Core.Logic.{◌⊎◌, inl, inr}
@@ -20,7 +21,6 @@ use Rattle.telnet_fragments.specs.Call.{Call, run_of, rested, has_failed, ends, 
 use Rattle.telnet_fragments.specs.Joined.{joins, joined}
 use Rattle.telnet_fragments.specs.Theorems.{mode_after}
 use Rattle.telnet_fragments.proofs.Steps.{Reached, at-data, at-iac-seen, at-choosing, at-opening, at-payload, at-closing, at-failed, Single, step-fine, reached-rested}
-use Rattle.octets.specs.Choice.{if◌then◌else◌}
 use Rattle.octets.proofs.Choice.{choice}
 use Rattle.refusal.specs.Refusal.{bad_command, undoubled as undoubled_iac, payload_too_long}
 

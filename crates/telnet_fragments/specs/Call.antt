@@ -1,10 +1,9 @@
 -- One call of the reader that takes a stream by fragments (change request No. 2), said by the steps of the whole reading
 -- (`telnet`, `Whole.step_byte`). The reader gives its data out as it comes, so that between two bytes it is in a mode of
 -- the whole reading with no run.
-use Rattle.std.specs.Prelude.{ℕ, suc, Bool, true, false, List, [], ◌∷◌, ◌++◌, take}
+use Rattle.std.specs.Prelude.{ℕ, suc, Bool, true, false, List, [], ◌∷◌, ◌++◌, take, if◌then◌else◌}
 use Rattle.telnet.specs.Event.{Event}
 use Rattle.telnet.specs.Whole.{Mode, data', iac_seen, choosing, opening, payload, closing, failed, step_byte}
-use Rattle.octets.specs.Choice.{if◌then◌else◌}
 
 -- the run that a mode has so far
 unfoldable pub run_of : Mode → List ℕ

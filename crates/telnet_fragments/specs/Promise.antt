@@ -1,6 +1,6 @@
 -- What the functions of `telnet_feed` answer, and what they leave of the room, of the reader and of the array that are
 -- lent to them.
-use Rattle.std.specs.Prelude.{◌≡◌, Bool, true, false, ◌||◌, ℕ, List, [], ◌∷◌, ◌++◌, ltb, length, take}
+use Rattle.std.specs.Prelude.{◌≡◌, Bool, true, false, ◌||◌, ℕ, List, [], ◌∷◌, ◌++◌, ltb, length, take, if◌then◌else◌}
 use Rattle.telnet.specs.declared.Kind.{Kind}
 use Rattle.telnet.specs.declared.Kind.TheVariants.{Data as NoEvent, Command, Negotiation, Subnegotiation}
 use Rattle.telnet.specs.Event.{Event, event, kind, carried_bytes}
@@ -14,7 +14,6 @@ use Rattle.telnet_fragments.specs.declared.Taken.{Taken}
 use Rattle.telnet_fragments.specs.declared.Closed.{Closed}
 use Rattle.telnet_fragments.specs.declared.Closed.TheVariants.{End, Number}
 use Rattle.telnet_fragments.specs.Call.{Call, has_failed, called, number_of}
-use Rattle.octets.specs.Choice.{if◌then◌else◌}
 use Rattle.octets.specs.Lent.{Outcome, outcome, overwrite}
 use Rattle.refusal.specs.Refusal.{undoubled as undoubled_iac, payload_too_long, no_room, bad_command}
 

@@ -1,6 +1,6 @@
 -- The line of one event (specification, the end of "Worked lines of the line"): its place and what it is, or how the
 -- stream ended.
-use Rattle.std.specs.Prelude.{ℕ, List, ◌++◌, eqb}
+use Rattle.std.specs.Prelude.{ℕ, List, ◌++◌, eqb, if◌then◌else◌}
 use Rattle.telnet.specs.declared.Verb.{Verb}
 use Rattle.telnet.specs.declared.Verb.TheVariants.{Will, Wont, Do, Dont}
 use Rattle.telnet.specs.declared.Kind.{Kind}
@@ -10,7 +10,6 @@ use Rattle.telnet_reader.specs.declared.Answer.TheVariants.{End, Found, Refused}
 use Rattle.telnet.specs.Event.{eor}
 use Rattle.telnet.specs.Whole.{Ending, well, refusal}
 use Rattle.octets.specs.Ascii.{ascii}
-use Rattle.octets.specs.Choice.{if◌then◌else◌}
 use Rattle.octets.specs.Decimal.{decimal}
 
 -- a word and a number, with a blank between them

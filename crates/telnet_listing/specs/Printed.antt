@@ -1,9 +1,8 @@
 -- What the listing program prints (specification, the end of "Worked lines of the line": "reads standard input, at most
 -- 65,536 bytes (else it prints only TOO LONG)"), and how long that can be. `proofs/Room.antt` has the proof.
-use Rattle.std.specs.Prelude.{List, ℕ, ◌+◌, ◌*◌, ◌≤◌, ltb, length}
+use Rattle.std.specs.Prelude.{List, ℕ, ◌+◌, ◌*◌, ◌≤◌, ltb, length, if◌then◌else◌}
 use Rattle.octets.specs.Ascii.{ascii}
 use Rattle.octets.specs.Bytes.{Bytes}
-use Rattle.octets.specs.Choice.{if◌then◌else◌}
 use Rattle.telnet_listing.specs.Listing.{listing}
 
 -- how many bytes may come

@@ -1,7 +1,7 @@
 -- What each function of this crate answers, and what it leaves in the buffer that it is lent: for every input, place
 -- and room, with the refusals in the specification's order (5 first; then those of the line, from left to right; 4
 -- last).
-use Rattle.std.specs.Prelude.{ℕ, ◌+◌, List, ltb, length, drop}
+use Rattle.std.specs.Prelude.{ℕ, ◌+◌, List, ltb, length, drop, if◌then◌else◌}
 use Rattle.telnet_reader.specs.declared.Answer.{Answer}
 use Rattle.telnet_reader.specs.declared.Answer.TheVariants.{End, Found, Refused}
 use Rattle.telnet.specs.Event.{kind, carried_bytes}
@@ -9,7 +9,6 @@ use Rattle.telnet.specs.Write.{written}
 use Rattle.telnet.specs.Read.{Front, no_event, found, refused, event_of}
 use Rattle.refusal.specs.Refusal.{no_room, past_the_end}
 use Rattle.refusal.specs.RefusedBy.{Refusal, no_refusal, refused_by}
-use Rattle.octets.specs.Choice.{if◌then◌else◌}
 use Rattle.octets.specs.Lent.{Outcome, outcome}
 use Rattle.octets.specs.Promise.{write_front}
 

@@ -1,13 +1,12 @@
 -- What `read_record` answers, and what it leaves in the buffer that it is lent: for every input, place and room, with
 -- the refusals in the specification's order (5 first; then those of the line, from left to right; 4 last).
-use Rattle.std.specs.Prelude.{ℕ, ◌+◌, List, ltb, length, drop}
+use Rattle.std.specs.Prelude.{ℕ, ◌+◌, List, ltb, length, drop, if◌then◌else◌}
 use Rattle.telnet_records.specs.declared.Record.{Record}
 use Rattle.telnet_records.specs.declared.Record.TheVariants.{Complete, Unfinished, Refused as NoRecord}
 use Rattle.telnet.specs.Whole.{Ending, well, refusal}
 use Rattle.telnet.specs.Record.{Gathered, complete, no_record, record_of}
 use Rattle.refusal.specs.Refusal.{no_room, past_the_end}
 use Rattle.refusal.specs.RefusedBy.{Refusal, no_refusal, refused_by}
-use Rattle.octets.specs.Choice.{if◌then◌else◌}
 use Rattle.octets.specs.Lent.{Outcome, outcome}
 use Rattle.octets.specs.Promise.{write_front}
 

@@ -1,5 +1,6 @@
 -- A turn is a step of the whole reading (`turn-found`), and what it says of the stage that it leads to (`turn_is`).
 -- Assumes nothing.
+use Rattle.std.specs.Prelude.{if◌then◌else◌}
 use mathlib.Core.Path.{◌≡◌, refl, sym, ap, subst, ◌∙◌}
 use mathlib.Core.Bool.{Bool, true, false}
 use mathlib.Core.Logic.{⊎_elim}
@@ -25,7 +26,6 @@ use Rattle.telnet_stage.specs.declared.Act.{Act}
 use Rattle.telnet_stage.specs.declared.Act.TheVariants.{Waits, Gives, Keeps, Stops}
 use Rattle.telnet_stage.specs.declared.Turn.{Turn}
 use Rattle.telnet_stage.specs.Turn.{turns, leads, after_iac, grows, closes, turn_of}
-use Rattle.octets.specs.Choice.{if◌then◌else◌}
 use Rattle.octets.proofs.Choice.{choice}
 use Rattle.octets.proofs.Order.{below-or-above}
 use Rattle.refusal.specs.Refusal.{undoubled as undoubled_iac}

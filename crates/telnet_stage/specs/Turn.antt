@@ -1,6 +1,6 @@
 -- A byte's turn: what it makes of a reader's stage and count, and what is to be done with it. `proofs/Turning.antt` joins
 -- turns to the steps of the whole reading (`telnet`, `Whole.step_byte`).
-use Rattle.std.specs.Prelude.{ℕ, eqb, ltb}
+use Rattle.std.specs.Prelude.{ℕ, eqb, ltb, if◌then◌else◌}
 use Rattle.telnet.specs.declared.Lead.{Lead}
 use Rattle.telnet.specs.declared.Lead.TheVariants.{Faulty, Opens, Negotiates, Simple}
 use Rattle.telnet.specs.declared.Kind.TheVariants.{Data as NoEvent, Command, Negotiation, Subnegotiation}
@@ -11,7 +11,6 @@ use Rattle.telnet_fragments.specs.declared.Stage.TheVariants.{Data, IacSeen, Cho
 use Rattle.telnet_stage.specs.declared.Act.{Act}
 use Rattle.telnet_stage.specs.declared.Act.TheVariants.{Waits, Gives, Keeps, Stops}
 use Rattle.telnet_stage.specs.declared.Turn.{Turn}
-use Rattle.octets.specs.Choice.{if◌then◌else◌}
 
 abbrev pub turns : Stage → (count : ℕ) → Act → Turn
 turns s n a = record { stage = s; count = n; act = a }

@@ -1,13 +1,12 @@
 -- What the writer answers, and what it leaves in the buffer that it is lent: for every event and room, with the
 -- refusals in the specification's order: 7 or 3, and 4 last.
-use Rattle.std.specs.Prelude.{ℕ, not, List}
+use Rattle.std.specs.Prelude.{ℕ, not, List, if◌then◌else◌}
 use Rattle.telnet.specs.Event.{Event, run, command, negotiation, subnegotiation}
 use Rattle.telnet.specs.Write.{written, writable}
 use Rattle.refusal.specs.declared.Written.{Written}
 use Rattle.refusal.specs.declared.Written.TheVariants.{Refused}
 use Rattle.refusal.specs.Refusal.{not_writable, payload_too_long}
 use Rattle.refusal.specs.Written.{written_into}
-use Rattle.octets.specs.Choice.{if◌then◌else◌}
 use Rattle.octets.specs.Lent.{Outcome, outcome}
 
 -- why an event that is not writable is refused

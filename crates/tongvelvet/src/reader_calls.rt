@@ -5,6 +5,7 @@ ghost use Rattle.export_reader.specs.Numbers.{reader, reader_numbers};
 ghost use Rattle.export_reader.specs.Numbers.{FedByNumbers, ClosedByNumber};
 
 use export_reader::{TvFed, TvReader};
+use telnet::PAYLOAD_LIMIT;
 
 // A reader that has read nothing.
 #[unsafe(no_mangle)]

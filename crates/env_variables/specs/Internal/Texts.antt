@@ -1,11 +1,10 @@
 -- What the private functions find that take a name or a value out of the payload.
-use Rattle.std.specs.Prelude.{◌≡◌, Bool, true, false, List, [], ◌∷◌, ℕ, ◌+◌, ◌≤◌, eqb, length, drop}
+use Rattle.std.specs.Prelude.{◌≡◌, Bool, true, false, List, [], ◌∷◌, ℕ, ◌+◌, ◌≤◌, eqb, length, drop, if◌then◌else◌}
 use Rattle.env_text.specs.declared.Text.{Text}
 use Rattle.env_text.specs.Text.{text_of, ends_text}
 use Rattle.env.specs.Variable.{VALUE}
 use Rattle.env.specs.Fields.{text, broken, row, row_of}
 use Rattle.env.specs.Numbers.{DEFINED, UNDEFINED}
-use Rattle.octets.specs.Choice.{if◌then◌else◌}
 use Rattle.octets.specs.Lent.{overwrite}
 
 -- a VALUE is at the front

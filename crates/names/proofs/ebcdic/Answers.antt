@@ -1,11 +1,11 @@
 -- `names::ebcdic` meets its contract: each arm of the `match` is compared with the definition at every byte that
 -- reaches it. Assumes nothing.
+use Rattle.std.specs.Prelude.{if◌then◌else◌}
 use mathlib.Core.Path.{◌≡◌, refl, ◌∙◌}
 use Prim.Native.Nat.{ℕ, ◌+◌, ◌-◌}
 use native.Mathlib.Omega.{arith}
 use lib.Dec.{eqb}
 use borrow.Author.Tests.{ne_eqb}
-use Rattle.octets.specs.Choice.{if◌then◌else◌}
 use Rattle.names.specs.Ebcdic.{ebcdic}
 use Rattle.names.proofs.Agreement.{agree}
 use Rattle.names.proofs.ebcdic.Goals as goal

@@ -1,12 +1,11 @@
 -- What one call does to a standing, near the code: the replay's own functions promise these.
-use Rattle.std.specs.Prelude.{ℕ, ◌+◌, List, ◌++◌, take}
+use Rattle.std.specs.Prelude.{ℕ, ◌+◌, List, ◌++◌, take, if◌then◌else◌}
 use Rattle.option_rules.specs.declared.Command.{Command}
 use Rattle.option_rules.specs.declared.Side.{Side}
 use Rattle.option_rules.specs.declared.Step.{Step}
 use Rattle.option_rules.specs.Table.{Row}
 use Rattle.option_ends.specs.Ends.{near, Call, AtEnd, Ends, ends, CallResult, changed, after, count_where, sent_by, is_command, sends, granted}
 use Rattle.option_ends.specs.Replay.{Standing}
-use Rattle.octets.specs.Choice.{if◌then◌else◌}
 
 -- two ends, with one standing's counts added to another's
 abbrev pub plus : Standing → Standing → Ends → Standing

@@ -1,7 +1,6 @@
 -- The turns of both ends: what the private functions of this crate answer. No public promise rests on these
 -- definitions; `proofs/` has them computed.
-use Rattle.std.specs.Prelude.{ℕ, suc, zero, ◌*◌, Bool, true, false, ◌&&◌, List, eqb}
-use Rattle.octets.specs.Choice.{if◌then◌else◌}
+use Rattle.std.specs.Prelude.{ℕ, suc, zero, ◌*◌, Bool, true, false, ◌&&◌, List, eqb, if◌then◌else◌}
 use Rattle.octets.specs.Lent.{Outcome, outcome}
 use Rattle.option_rules.specs.declared.Command.TheVariants.{On as on}
 use Rattle.option_rules.specs.declared.Side.{Side}

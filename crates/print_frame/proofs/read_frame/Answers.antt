@@ -1,5 +1,6 @@
 -- `print_frame::read_frame` meets its contract: at each `return` the tests of `frame_of` up to it are decided. Assumes
 -- nothing.
+use Rattle.std.specs.Prelude.{if◌then◌else◌}
 use mathlib.Core.Path.{◌≡◌, sym, ap, ◌∙◌}
 use mathlib.Core.Bool.{Bool, true, false, not}
 use mathlib.Core.List.{List}
@@ -7,7 +8,6 @@ use Prim.Native.Nat.{ℕ, ◌≤◌}
 use native.Mathlib.Omega.{arith}
 use lib.ListN.{length}
 use borrow.Author.Tests.{lt-ltb, le-ltb, eq-eqb, ne_eqb}
-use Rattle.octets.specs.Choice.{if◌then◌else◌}
 use Rattle.refusal.specs.Refusal.{bad_data_flow}
 use Rattle.print_frame.specs.declared.FrameAnswer.TheVariants.{Refused}
 use Rattle.print_frame.specs.Frame.{structure_length, identifier, data_flow, is_flow, header_of, frame_of}

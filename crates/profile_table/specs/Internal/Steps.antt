@@ -1,6 +1,5 @@
 -- A table read record by record: what was found up to a place.
-use Rattle.std.specs.Prelude.{List, ℕ, ◌+◌, length}
-use Rattle.octets.specs.Choice.{if◌then◌else◌}
+use Rattle.std.specs.Prelude.{List, ℕ, ◌+◌, length, if◌then◌else◌}
 use Rattle.octets.specs.Same.{same}
 use Rattle.profile.specs.Profile.{Profile}
 use Rattle.profile.specs.Table.{TableReading, profiles, table_refused}

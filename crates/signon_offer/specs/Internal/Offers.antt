@@ -1,6 +1,5 @@
 -- The reason that each kind of offer gives: a clear password, a DES substitute, a SHA-1 substitute.
-use Rattle.std.specs.Prelude.{ℕ, Bool, not, List}
-use Rattle.octets.specs.Choice.{if◌then◌else◌}
+use Rattle.std.specs.Prelude.{ℕ, Bool, not, List, if◌then◌else◌}
 use Rattle.profile.specs.Profile.{Profile, des_allowed, stored_des, stored_sha}
 use Rattle.password_sha.specs.Sha.{is_password}
 use Rattle.password_check.specs.Gives.{gives_clear, gives_des, gives_sha}

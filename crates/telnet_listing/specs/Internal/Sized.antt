@@ -1,7 +1,6 @@
 -- What the private function that measures the listing answers. No public promise rests on this definition.
-use Rattle.std.specs.Prelude.{List, ℕ, ltb, length}
+use Rattle.std.specs.Prelude.{List, ℕ, ltb, length, if◌then◌else◌}
 use Rattle.refusal.specs.Refusal.{no_room}
-use Rattle.octets.specs.Choice.{if◌then◌else◌}
 use Rattle.refusal.specs.declared.Written.{Written}
 use Rattle.refusal.specs.declared.Written.TheVariants.{Wrote, Refused}
 

@@ -1,11 +1,7 @@
 -- `claims::demand_3` promises what `option_ends` proves. Assumes nothing.
 use Rattle.option_ends.proofs.Agreement.{demand3}
 use Rattle.option_ends.proofs.Attained.{bound-attained}
-use Rattle.claims.proofs.demand_3.Statement.{statement}
-use Rattle.claims.proofs.demand_3.Tie as tie
+use Rattle.claims.proofs.demand_3.Goals as goal
 
-returns : tie.Need-returns
+pub returns : goal.returns
 returns c = record { agreed = demand3; attained = bound-attained }
-
-pub demand-3-spec : {M : Type 1} → statement M
-demand-3-spec = tie.close (tie.spec returns)
