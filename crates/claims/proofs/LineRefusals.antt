@@ -8,9 +8,9 @@ use lib.Dec.{T, eqb, ltb}
 use lib.ListN.{length, drop}
 use Rattle.octets.proofs.Choice.{choice}
 use Rattle.octets.proofs.Promise.{front-either}
-use Rattle.refusal.specs.Refusal.{no_room}
-use Rattle.refusal.specs.RefusedBy.{Refusal, no_refusal, refused_by, by_number}
-use Rattle.refusal.specs.Written.{written_into, written_refusal}
+use Rattle.refusal.specs.Refusal.{number, no_room}
+use Rattle.refusal.specs.RefusedBy.{RefusalNumber, no_refusal, refused_by, by_number, refusal_number, number_or_0}
+use Rattle.refusal.specs.Written.{written_into}
 use Rattle.telnet.specs.Event.{Event, run, command, negotiation, subnegotiation, carried_bytes, lead, payload_limit, iac, se}
 use Rattle.telnet.specs.declared.Lead.{Lead}
 use Rattle.telnet.specs.declared.Lead.TheVariants.{Faulty, Opens, Negotiates, Simple}
@@ -21,8 +21,8 @@ use Rattle.telnet.specs.Whole.{Ending, well, refusal, Mode, data', iac_seen, cho
 use Rattle.telnet.specs.Whole.{Step, leads, grown, step_byte, stops, reading_from, reading, ended}
 use Rattle.telnet.specs.Record.{Gathered, complete, no_record, is_end_of_record, with_event, gathered, record_of}
 use Rattle.telnet_reader.specs.Promise as Reader
-use Rattle.telnet_reader.specs.Promise.{look_at, read_at, event_refusal}
-use Rattle.telnet_records.specs.Promise.{answer_no_record, kept, record_at, record_refusal}
+use Rattle.telnet_reader.specs.Promise.{look_at, read_at}
+use Rattle.telnet_records.specs.Promise.{answer_no_record, kept, record_at}
 use Rattle.telnet_writer.specs.Promise.{unwritable, write_of}
 use Rattle.option_rules.specs.declared.Command.{Command}
 use Rattle.option_rules.specs.declared.Command.TheVariants.{On as on, Off as off}
@@ -35,71 +35,71 @@ use Rattle.claims.specs.Demand1.{line, RefusesBy, RefusesInto}
 
 -- what is at the front of bytes is refused by one of the line's numbers
 abbrev pub ByLine : Front → Type 0
-ByLine = FrontBy (λ n. T (one_of line n))
+ByLine = FrontBy (λ why. T (one_of line (number why)))
 
 pub by-line : (bs : List ℕ) → ByLine (event_of bs)
 unfolding one_of
-by-line = front_by (λ n. T (one_of line n)) tt tt tt tt
+by-line = front_by (λ why. T (one_of line (number why))) tt tt tt tt
 
 -- what refuses by one of some numbers refuses by one of more
-by-more : (m : ℕ) (ms : List ℕ) {L : Type 0} (before after : L) (r : Refusal) → Refuses ms before after r
+by-more : (m : ℕ) (ms : List ℕ) {L : Type 0} (before after : L) (r : RefusalNumber) → Refuses ms before after r
     → Refuses (m ∷ ms) before after r
 by-more m ms before after no_refusal t = tt
 by-more m ms before after (refused_by n) t = (more m ms n t.0, t.1)
 
-pub answered-by : (at : ℕ) (f : Front) → ByLine f → RefusesBy line (event_refusal (Reader.answered at f))
+pub answered-by : (at : ℕ) (f : Front) → ByLine f → RefusesBy line (refusal_number (Reader.answered at f))
 unfolding Reader.answered
 answered-by at no_event t = tt
 answered-by at (found e) t = tt
-answered-by at (refused n) t = (t, refl)
+answered-by at (refused why) t = (t, refl)
 
-pub looks : (s : List ℕ) (at : ℕ) → RefusesBy (5 ∷ line) (event_refusal (look_at s at))
+pub looks : (s : List ℕ) (at : ℕ) → RefusesBy (5 ∷ line) (refusal_number (look_at s at))
 unfolding look_at one_of
 looks s at =
     let f = event_of (drop at s) in
-    choice (λ a. RefusesBy (5 ∷ line) (event_refusal a)) (ltb (length s) at) (λ _. (tt, refl))
-    (λ _. by-more 5 line _ _ (event_refusal (Reader.answered at f)) (answered-by at f (by-line (drop at s))))
+    choice (λ (a : Reader.Answer). RefusesBy (5 ∷ line) (refusal_number a)) (ltb (length s) at) (λ _. (tt, refl))
+    (λ _. by-more 5 line _ _ (refusal_number (Reader.answered at f)) (answered-by at f (by-line (drop at s))))
 
 pub delivered-by : (at : ℕ) (f : Front) (out : List ℕ) → ByLine f
-    → RefusesInto (4 ∷ line) event_refusal out (Reader.delivered at f out)
+    → RefusesInto (4 ∷ line) refusal_number out (Reader.delivered at f out)
 unfolding Reader.delivered Reader.answered one_of
 delivered-by at no_event out t = tt
-delivered-by at (refused n) out t = (more 4 line n t, refl)
+delivered-by at (refused why) out t = (more 4 line (number why) t, refl)
 delivered-by at (found e) out t =
-    front-either _ _ (carried_bytes e) out (RefusesInto (4 ∷ line) event_refusal out) (λ _. (tt, refl)) (λ _. tt)
+    front-either _ _ (carried_bytes e) out (RefusesInto (4 ∷ line) refusal_number out) (λ _. (tt, refl)) (λ _. tt)
 
-pub reads : (s : List ℕ) (at : ℕ) (out : List ℕ) → RefusesInto (5 ∷ 4 ∷ line) event_refusal out (read_at s at out)
+pub reads : (s : List ℕ) (at : ℕ) (out : List ℕ) → RefusesInto (5 ∷ 4 ∷ line) refusal_number out (read_at s at out)
 unfolding read_at one_of
 reads s at out =
     let f = event_of (drop at s) in
     let by = delivered-by at f out (by-line (drop at s)) in
-    choice (RefusesInto (5 ∷ 4 ∷ line) event_refusal out) (ltb (length s) at) (λ _. (tt, refl))
-    (λ _. by-more 5 (4 ∷ line) _ _ (event_refusal (Reader.delivered at f out).answer) by)
+    choice (RefusesInto (5 ∷ 4 ∷ line) refusal_number out) (ltb (length s) at) (λ _. (tt, refl))
+    (λ _. by-more 5 (4 ∷ line) _ _ (refusal_number (Reader.delivered at f out).answer) by)
 
 -- bytes written to the front of a buffer
-pub written-by : (ms : List ℕ) → T (one_of ms no_room) → (bytes out : List ℕ) → RefusesInto ms written_refusal out (written_into bytes out)
-written-by ms four bytes out = front-either _ _ bytes out (RefusesInto ms written_refusal out) (λ _. (four, refl)) (λ _. tt)
+pub written-by : (ms : List ℕ) → T (one_of ms no_room) → (bytes out : List ℕ) → RefusesInto ms refusal_number out (written_into bytes out)
+written-by ms four bytes out = front-either _ _ bytes out (RefusesInto ms refusal_number out) (λ _. (four, refl)) (λ _. tt)
 
-pub writes : (e : Event) (out : List ℕ) → RefusesInto (7 ∷ 3 ∷ 4 ∷ []) written_refusal out (write_of e out)
+pub writes : (e : Event) (out : List ℕ) → RefusesInto (7 ∷ 3 ∷ 4 ∷ []) refusal_number out (write_of e out)
 unfolding write_of unwritable one_of
 writes e out =
-    choice (RefusesInto (7 ∷ 3 ∷ 4 ∷ []) written_refusal out) (not (writable e)) (λ _. (unwritten e, refl))
+    choice (RefusesInto (7 ∷ 3 ∷ 4 ∷ []) refusal_number out) (not (writable e)) (λ _. (unwritten e, refl))
     (λ _. written-by (7 ∷ 3 ∷ 4 ∷ []) tt (written e) out)
   where
-    unwritten : (e : Event) → T (one_of (7 ∷ 3 ∷ 4 ∷ []) (unwritable e))
+    unwritten : (e : Event) → T (one_of (7 ∷ 3 ∷ 4 ∷ []) (number (unwritable e)))
     unwritten (run d) = tt
     unwritten (command c) = tt
     unwritten (negotiation v o) = tt
     unwritten (subnegotiation o p) = tt
 
-pub lists : (words out : List ℕ) → RefusesInto (4 ∷ []) written_refusal out (written_into words out)
+pub lists : (words out : List ℕ) → RefusesInto (4 ∷ []) refusal_number out (written_into words out)
 unfolding one_of
 lists words out = written-by (4 ∷ []) tt words out
 
 -- how a reading ends
 abbrev EndingBy : Ending → Type 0
 EndingBy well = Unit {0}
-EndingBy (refusal n) = T (one_of line n)
+EndingBy (refusal why) = T (one_of line (number why))
 
 abbrev ModeBy : Mode → Type 0
 ModeBy (data' r) = Unit {0}
@@ -108,7 +108,7 @@ ModeBy (choosing v) = Unit {0}
 ModeBy opening = Unit {0}
 ModeBy (payload o p) = Unit {0}
 ModeBy (closing o p) = Unit {0}
-ModeBy (failed n) = T (one_of line n)
+ModeBy (failed why) = T (one_of line (number why))
 
 abbrev StepBy : Step → Type 0
 StepBy s = ModeBy s.mode
@@ -168,27 +168,27 @@ unfolding record_of reading
 record-by bs = gathered-by (reading bs).events (reading bs).ending (ending-by (data' []) bs tt)
 
 pub kept_by : (at : ℕ) (g : Gathered) (out : List ℕ) → GatheredBy g
-    → RefusesInto (4 ∷ line) record_refusal out (kept at g out)
+    → RefusesInto (4 ∷ line) refusal_number out (kept at g out)
 unfolding kept answer_no_record one_of
 kept_by at (no_record well) out t = tt
-kept_by at (no_record (refusal n)) out t = (more 4 line n t, refl)
+kept_by at (no_record (refusal why)) out t = (more 4 line (number why) t, refl)
 kept_by at (complete d n) out t =
-    front-either _ _ d out (RefusesInto (4 ∷ line) record_refusal out) (λ _. (tt, refl)) (λ _. tt)
+    front-either _ _ d out (RefusesInto (4 ∷ line) refusal_number out) (λ _. (tt, refl)) (λ _. tt)
 
-pub reads-records : (s : List ℕ) (at : ℕ) (out : List ℕ) → RefusesInto (5 ∷ 4 ∷ line) record_refusal out (record_at s at out)
+pub reads-records : (s : List ℕ) (at : ℕ) (out : List ℕ) → RefusesInto (5 ∷ 4 ∷ line) refusal_number out (record_at s at out)
 unfolding record_at one_of
 reads-records s at out =
     let g = record_of (drop at s) in
-    choice (RefusesInto (5 ∷ 4 ∷ line) record_refusal out) (ltb (length s) at) (λ _. (tt, refl))
-    (λ _. by-more 5 (4 ∷ line) _ _ (record_refusal (kept at g out).answer) (kept_by at g out (record-by (drop at s))))
+    choice (RefusesInto (5 ∷ 4 ∷ line) refusal_number out) (ltb (length s) at) (λ _. (tt, refl))
+    (λ _. by-more 5 (4 ∷ line) _ _ (refusal_number (kept at g out).answer) (kept_by at g out (record-by (drop at s))))
 
 -- one side of an option, by the table or as one that is not carried
 abbrev ReceivesBy : (Side → Row) → Type 0
 ReceivesBy rules =
-    (s : Side) (accept : Bool) (c : Command) → Refuses [] s (on_receive rules s accept c).side (by_receipt (on_receive rules s accept c).number)
+    (s : Side) (accept : Bool) (c : Command) → Refuses [] s (on_receive rules s accept c).side (by_receipt (number_or_0 (on_receive rules s accept c).refusal))
 
 abbrev RequestsBy : (Side → Row) → Type 0
-RequestsBy rules = (s : Side) (c : Command) → Refuses (10 ∷ 11 ∷ 12 ∷ 13 ∷ []) s (on_request rules s c).side (by_number (on_request rules s c).number)
+RequestsBy rules = (s : Side) (c : Command) → Refuses (10 ∷ 11 ∷ 12 ∷ 13 ∷ []) s (on_request rules s c).side (by_number (number_or_0 (on_request rules s c).refusal))
 
 table-receives : ReceivesBy table
 table-receives Off true on = tt

@@ -1,6 +1,8 @@
 -- Who signs on with the name and the password that the token maker was given is granted: the theorem `MadeSignsOn`. The
 -- stored record is that of the made profile alone, so its tokens are those that the substitute was computed from.
 -- Assumes nothing.
+use Rattle.std.specs.Prelude.{Result, Ok}
+use Rattle.refusal.specs.declared.Refusal.{Refusal}
 use mathlib.Core.Path.{◌≡◌, refl, sym, ap, subst, ◌∙◌}
 use mathlib.Core.Bool.{Bool, true, not}
 use mathlib.Core.List.{List, [], ◌∷◌, ◌++◌}
@@ -14,8 +16,6 @@ use mir.Facts.{yes_and}
 use lib.Dec.{T, eqb→eq}
 use Rattle.octets.specs.Lent.{Outcome}
 use Rattle.octets.proofs.Choice.{choice}
-use Rattle.refusal.specs.declared.Written.{Written}
-use Rattle.refusal.specs.declared.Written.TheVariants.{Wrote}
 use Rattle.refusal.proofs.Writing.{not-wrote}
 use Rattle.words.specs.BigEndian.{number, bytes}
 use Rattle.words.proofs.BigEndian.{length-bytes, number-bytes}
@@ -31,8 +31,6 @@ use Rattle.profile.proofs.Backs.{tables-written-back}
 use Rattle.profile_maker.specs.Made.{Making, making, has_des_token, des_token_bytes, made_profile}
 use Rattle.profile_maker.specs.Promise.{make_into}
 use Rattle.profile_maker.proofs.Goodness.{made-records-are-good}
-use Rattle.password_des.specs.declared.Block.{Block}
-use Rattle.password_des.specs.declared.Block.TheVariants.{Value, Refused as NoBlock}
 use Rattle.password_des.specs.Des.{PW-TOKEN, PW-SUB}
 use Rattle.password_des.specs.Answer as Des
 use Rattle.password_sha.specs.Sha as Sha
@@ -56,37 +54,34 @@ same-record v p q a b e =
     sym (fronts (shape_of v) p [] a (short v)).says ∙ ap front e ∙ (fronts (shape_of v) q [] b (short v)).says
 
 -- where the token maker wrote, the name and the password are good
-good : (m : Making) (out : List ℕ) (n : ℕ) → (make_into m out).answer ≡ Wrote n
+good : (m : Making) (out : List ℕ) (n : ℕ) → (make_into m out).answer ≡ Ok n
     → (is_name profile_limit m.name ≡ true) × (Sha.is_password m.password ≡ true)
 unfolding make_into
 good m out n =
     let name = is_name profile_limit m.name in
     let password = Sha.is_password m.password in
-    let Both : Outcome Written → Type 0 = λ o. o.answer ≡ Wrote n → (name ≡ true) × (password ≡ true) in
+    let Both : Outcome (Result ℕ Refusal) → Type 0 = λ o. o.answer ≡ Ok n → (name ≡ true) × (password ≡ true) in
     choice Both (not name) (λ _ e. not-wrote e)
     (λ named. choice Both (not password) (λ _ e. not-wrote e)
     (λ passed _. (not-false name named, not-false password passed)))
 
-no_value : {A : Type 0} {k x : ℕ} → NoBlock k ≡ Value x → A
-no_value e = let z : ◌≡◌ {A = ℕ} 0 1 = cc in absurd (omega arith)
-
 -- what a token and a substitute by DES are, where there is one
-token-is : (name password : List ℕ) (token : ℕ) → Des.des_token name password ≡ Value token
+token-is : (name password : List ℕ) (token : ℕ) → Des.des_token name password ≡ Ok token
     → (has_des_token password ≡ true) × (token ≡ PW-TOKEN (ebcdic_of password) (ebcdic_of name))
 unfolding Des.des_token
 token-is name password token =
     let made = PW-TOKEN (ebcdic_of password) (ebcdic_of name) in
-    let Is : Block → Type 0 = λ b. b ≡ Value token → (has_des_token password ≡ true) × (token ≡ made) in
-    choice Is (not (is_name profile_limit name)) (λ _ e. no_value e)
-    (λ _. choice Is (not (has_des_token password)) (λ _ e. no_value e)
+    let Is : Result ℕ Refusal → Type 0 = λ b. b ≡ Ok token → (has_des_token password ≡ true) × (token ≡ made) in
+    choice Is (not (is_name profile_limit name)) (λ _ e. not-wrote e)
+    (λ _. choice Is (not (has_des_token password)) (λ _ e. not-wrote e)
     (λ has e. (not-false (has_des_token password) has, cc)))
 
 substitute-is : (token : ℕ) (name : List ℕ) (server client block : ℕ)
-    → Des.des_substitute token name server client ≡ Value block → block ≡ PW-SUB token server client (ebcdic_of name)
+    → Des.des_substitute token name server client ≡ Ok block → block ≡ PW-SUB token server client (ebcdic_of name)
 unfolding Des.des_substitute
 substitute-is token name server client block =
-    let Is : Block → Type 0 = λ b. b ≡ Value block → block ≡ PW-SUB token server client (ebcdic_of name) in
-    choice Is (not (is_name profile_limit name)) (λ _ e. no_value e) (λ _ e. cc)
+    let Is : Result ℕ Refusal → Type 0 = λ b. b ≡ Ok block → block ≡ PW-SUB token server client (ebcdic_of name) in
+    choice Is (not (is_name profile_limit name)) (λ _ e. not-wrote e) (λ _ e. cc)
 
 module _ (name password : List ℕ) (des : Bool) where
   abbrev asked : Making
@@ -113,7 +108,12 @@ module _ (name password : List ℕ) (des : Bool) where
         → BySha name password server client offered
         → offered ≡ Sha.PW-SUB (Profiles.stored_sha profile) (bytes 8 server) (bytes 8 client) name
     unfolding ShaAnswer.sha_token ShaAnswer.sha_substitute
-    by-sha named passed b = b.substitute ∙ rw (named, passed)
+    by-sha named passed b =
+        let made = rw (named, passed) at b.has_token in
+        let token : b.token ≡ Sha.PW-token name password = cc in
+        let given = rw named at b.substitute in
+        let is : offered ≡ Sha.PW-SUB b.token (bytes 8 server) (bytes 8 client) name = cc in
+        is ∙ ap (λ k. Sha.PW-SUB k (bytes 8 server) (bytes 8 client) name) token
 
     by-des : server < 2 ^ 64 → client < 2 ^ 64 → ByDes name password des server client offered
         → T (des_allowed profile)

@@ -5,7 +5,7 @@ use mathlib.Core.Bool.{Bool, true, false, ◌||◌}
 use mathlib.Core.List.{List, [], ◌∷◌, ◌++◌}
 use Prim.Native.Nat.{ℕ}
 use lib.Dec.{T, eqb}
-use Rattle.refusal.specs.RefusedBy.{Refusal, no_refusal, refused_by}
+use Rattle.refusal.specs.RefusedBy.{RefusalNumber, no_refusal, refused_by}
 use Rattle.claims.specs.Refusals.{one_of, Refuses}
 use Rattle.claims.specs.Demand1.{RefusesBy}
 
@@ -32,17 +32,17 @@ after [] ks n t = absurd t
 after (m ∷ ms) ks n t = or_map (eqb n m) (one_of ms n) (one_of (ms ++ ks) n) (after ms ks n) t
 
 -- A refusal by some numbers is one by more.
-pub wider : (ms ks : List ℕ) → ((n : ℕ) → T (one_of ms n) → T (one_of ks n)) → {L : Type 0} (found left : L) (r : Refusal)
+pub wider : (ms ks : List ℕ) → ((n : ℕ) → T (one_of ms n) → T (one_of ks n)) → {L : Type 0} (found left : L) (r : RefusalNumber)
     → Refuses ms found left r → Refuses ks found left r
 wider ms ks f found left no_refusal t = tt
 wider ms ks f found left (refused_by n) t = (f n t.0, t.1)
 
 -- What is made of things that are as they were is as it was.
-pub mapped : (ms : List ℕ) {L M : Type 0} (f : L → M) (found left : L) (r : Refusal)
+pub mapped : (ms : List ℕ) {L M : Type 0} (f : L → M) (found left : L) (r : RefusalNumber)
     → Refuses ms found left r → Refuses ms (f found) (f left) r
 mapped ms f found left no_refusal t = tt
 mapped ms f found left (refused_by n) t = (t.0, ap f t.1)
 
 -- where nothing matters but the numbers
-pub numbers_of : (ms : List ℕ) {L : Type 0} (found left : L) (r : Refusal) → Refuses ms found left r → RefusesBy ms r
+pub numbers_of : (ms : List ℕ) {L : Type 0} (found left : L) (r : RefusalNumber) → Refuses ms found left r → RefusesBy ms r
 numbers_of ms found left r t = mapped ms (λ _. tt) found left r t

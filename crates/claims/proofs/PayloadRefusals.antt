@@ -15,27 +15,30 @@ use Rattle.env.specs.Fields.{Text, text, broken, Field, name_field, value_field,
 use Rattle.env.specs.Read.{Found, variables, fault, add_variable, limited, whole, named, names, expect_no_text, variables_of, Reading, says, not_read, distinct, begun, reading_of}
 use Rattle.env.specs.Write.{Objection, none, against, objection, payload_of, nameless}
 use Rattle.env.specs.Numbers.{packed, recorded, variables_held, placed}
-use Rattle.env_delivery.specs.declared.Answer.{Answer}
-use Rattle.env_delivery.specs.Promise.{Delivery, delivered, read_into, read_after, hand_over, deliver_read, payload_refusal}
+use Rattle.env_delivery.specs.Promise.{Delivery, delivered, read_into, read_after, hand_over, deliver_read}
 use Rattle.env_list.specs.Reading.{listed, read_records}
 use Rattle.env_list.specs.Lists.{Listing}
 use Rattle.env_writer.specs.Promise.{put, write_into}
-use Rattle.refusal.specs.Refusal.{no_room, no_variable, value_in_value}
-use Rattle.refusal.specs.Written.{written_refusal}
+use Rattle.std.specs.Prelude.{Result}
+use Rattle.refusal.specs.declared.Refusal.{Refusal}
+use Rattle.refusal.specs.declared.Refusal.TheVariants.{NoVariable, ValueInValue}
+use Rattle.refusal.specs.Refusal.{number, no_room}
+use Rattle.env_delivery.specs.declared.Payload.{Payload}
 use Rattle.claims.specs.Refusals.{one_of, Refuses}
 use Rattle.claims.specs.Demand1.{payload, RefusesInto, RefusesBoth}
 use Rattle.claims.proofs.OneOf.{more}
 use Rattle.claims.proofs.LineRefusals.{written-by}
+use Rattle.refusal.specs.RefusedBy.{refusal_number}
 
 -- the first fault of variables
 abbrev FoundBy : Found → Type 0
 FoundBy (variables vs) = Unit {0}
-FoundBy (fault n) = T (one_of payload n)
+FoundBy (fault why) = T (one_of payload (number why))
 
 add-by : (v : Variable) (f : Found) → FoundBy f → FoundBy (add_variable v f)
 unfolding add_variable
 add-by v (variables vs) t = tt
-add-by v (fault n) t = t
+add-by v (fault why) t = t
 
 limited-by : (k : ℕ) (f : Found) → FoundBy f → FoundBy (limited k f)
 unfolding limited one_of
@@ -51,15 +54,15 @@ unfolding named one_of
 named_by f t [] = tt
 named_by f t (b ∷ bs) = t (b ∷ bs)
 
-names-by : (number : ℕ) → T (one_of payload number) → (k : ℕ) (fs : List Field) → FoundBy (names number k fs)
+names-by : (why : Refusal) → T (one_of payload (number why)) → (k : ℕ) (fs : List Field) → FoundBy (names why k fs)
 unfolding names one_of
-names-by number t k [] = tt
-names-by number t k (value_field x ∷ fs) = t
-names-by number t k (name_field kind x ∷ value_field u ∷ fs) =
-    limited-by k _ (whole_by x _ (named_by _ (λ name. whole_by u _ (λ value. add-by (variable kind name (defined value)) _ (names-by value_in_value tt (suc k) fs)))))
-names-by number t k (name_field kind x ∷ []) = limited-by k _ (whole_by x _ (named_by _ (λ name. add-by (variable kind name undefined) (variables []) tt)))
-names-by number t k (name_field kind x ∷ name_field kind₂ u ∷ fs) =
-    limited-by k _ (whole_by x _ (named_by _ (λ name. add-by (variable kind name undefined) _ (names-by no_variable tt (suc k) (name_field kind₂ u ∷ fs)))))
+names-by why t k [] = tt
+names-by why t k (value_field x ∷ fs) = t
+names-by why t k (name_field kind x ∷ value_field u ∷ fs) =
+    limited-by k _ (whole_by x _ (named_by _ (λ name. whole_by u _ (λ value. add-by (variable kind name (defined value)) _ (names-by ValueInValue tt (suc k) fs)))))
+names-by why t k (name_field kind x ∷ []) = limited-by k _ (whole_by x _ (named_by _ (λ name. add-by (variable kind name undefined) (variables []) tt)))
+names-by why t k (name_field kind x ∷ name_field kind₂ u ∷ fs) =
+    limited-by k _ (whole_by x _ (named_by _ (λ name. add-by (variable kind name undefined) _ (names-by NoVariable tt (suc k) (name_field kind₂ u ∷ fs)))))
 
 expect-by : (x : Text) (f : Found) → FoundBy f → FoundBy (expect_no_text x f)
 unfolding expect_no_text one_of
@@ -70,18 +73,18 @@ expect-by (text (b ∷ bs)) f t = tt
 -- what a payload says
 abbrev pub ReadingBy : Reading → Type 0
 ReadingBy (says first vs) = Unit {0}
-ReadingBy (not_read n) = T (one_of payload n)
+ReadingBy (not_read why) = T (one_of payload (number why))
 
 distinct-by : (first : ℕ) (f : Found) → FoundBy f → ReadingBy (distinct first f)
 unfolding distinct one_of
-distinct-by first (fault n) t = t
+distinct-by first (fault why) t = t
 distinct-by first (variables vs) t = choice ReadingBy (repeated vs) (λ _. tt) (λ _. tt)
 
 -- after the first byte
 rest-by : (first : ℕ) (rest : List ℕ) → ReadingBy (distinct first (variables_of (row_of rest)))
 unfolding variables_of one_of
 rest-by first rest =
-    let row = row_of rest in distinct-by first _ (expect-by row.front _ (names-by no_variable tt 0 row.fields))
+    let row = row_of rest in distinct-by first _ (expect-by row.front _ (names-by NoVariable tt 0 row.fields))
 
 begun-by : (p : List ℕ) → ReadingBy (begun p)
 unfolding begun one_of
@@ -96,7 +99,7 @@ reading-by p = choice ReadingBy (ltb payload_limit (length p)) (λ _. tt) (λ _.
 delivered-by : (r : Reading) (bytes numbers : List ℕ)
     → ReadingBy r → RefusesBoth (4 ∷ payload) bytes numbers (delivered r bytes numbers)
 unfolding delivered one_of
-delivered-by (not_read n) bytes numbers t = (more 4 payload n t, refl)
+delivered-by (not_read why) bytes numbers t = (more 4 payload (number why) t, refl)
 delivered-by (says first vs) bytes numbers t =
     let By : Delivery → Type 0 = RefusesBoth (4 ∷ payload) bytes numbers in
     choice By (ltb (length bytes) (length (packed vs))) (λ _. (tt, refl))
@@ -132,12 +135,12 @@ module _ (first : ℕ) (texts records bytes numbers : List ℕ) where
       (λ _. handed-by (25 ∷ 4 ∷ []) tt)
 
 -- the reader into a list of records
-abbrev ListsBy : List ℕ → List VariableRecord → Listing (Outcome Answer) → Type 0
-ListsBy bytes list d = Refuses (4 ∷ payload) {L = List ℕ × List VariableRecord} (bytes, list) (d.answer.lent, d.records) (payload_refusal d.answer.answer)
+abbrev ListsBy : List ℕ → List VariableRecord → Listing (Outcome (Result Payload Refusal)) → Type 0
+ListsBy bytes list d = Refuses (4 ∷ payload) {L = List ℕ × List VariableRecord} (bytes, list) (d.answer.lent, d.records) (refusal_number d.answer.answer)
 
 listed_by : (r : Reading) (bytes : List ℕ) (list : List VariableRecord) → ReadingBy r → ListsBy bytes list (listed r bytes list)
 unfolding listed one_of
-listed_by (not_read n) bytes list t = (more 4 payload n t, refl)
+listed_by (not_read why) bytes list t = (more 4 payload (number why) t, refl)
 listed_by (says first vs) bytes list t =
     choice (ListsBy bytes list) (ltb (length bytes) (length (packed vs))) (λ _. (tt, refl))
     (λ _. choice (ListsBy bytes list) (ltb (length list) (length vs)) (λ _. (tt, refl)) (λ _. tt))
@@ -151,7 +154,7 @@ numbers = 20 ∷ 27 ∷ 21 ∷ 24 ∷ 25 ∷ 3 ∷ 4 ∷ []
 
 abbrev ObjectionBy : Objection → Type 0
 ObjectionBy none = Unit {0}
-ObjectionBy (against n) = T (one_of numbers n)
+ObjectionBy (against why) = T (one_of numbers (number why))
 
 objection-by : (first : ℕ) (vs : List Variable) → ObjectionBy (objection first vs)
 unfolding objection one_of
@@ -161,15 +164,15 @@ objection-by first vs =
     (λ _. choice ObjectionBy (repeated vs) (λ _. tt)
     (λ _. choice ObjectionBy (ltb payload_limit (length (payload_of first vs))) (λ _. tt) (λ _. tt))))
 
-put-by : (o : Objection) (p out : List ℕ) → ObjectionBy o → RefusesInto numbers written_refusal out (put o p out)
+put-by : (o : Objection) (p out : List ℕ) → ObjectionBy o → RefusesInto numbers refusal_number out (put o p out)
 unfolding put one_of
 put-by none p out t = written-by numbers tt p out
-put-by (against n) p out t = (t, refl)
+put-by (against why) p out t = (t, refl)
 
-pub writes-payloads : (first : ℕ) (bytes list out : List ℕ) → RefusesInto numbers written_refusal out (write_into first bytes list out)
+pub writes-payloads : (first : ℕ) (bytes list out : List ℕ) → RefusesInto numbers refusal_number out (write_into first bytes list out)
 unfolding write_into one_of
 writes-payloads first bytes list out =
     let vs = variables_held bytes list in
-    choice (RefusesInto numbers written_refusal out) (not (is_first first)) (λ _. (tt, refl))
-    (λ _. choice (RefusesInto numbers written_refusal out) (not (placed bytes list)) (λ _. (tt, refl))
+    choice (RefusesInto numbers refusal_number out) (not (is_first first)) (λ _. (tt, refl))
+    (λ _. choice (RefusesInto numbers refusal_number out) (not (placed bytes list)) (λ _. (tt, refl))
     (λ _. put-by (objection first vs) (payload_of first vs) out (objection-by first vs)))

@@ -1,6 +1,6 @@
 -- 5 first: it is told exactly where a place is past the end (`five-first`, the record `Orders.FiveFirst`).
 -- Assumes nothing.
-use Rattle.std.specs.Prelude.{if◌then◌else◌}
+use Rattle.std.specs.Prelude.{Option, Result, Err, if◌then◌else◌}
 use mathlib.Core.Path.{◌≡◌, refl, ap, subst}
 use mathlib.Core.List.{List, ◌∷◌}
 use mathlib.Core.Logic.{◌↔◌}
@@ -10,15 +10,14 @@ use lib.ListN.{length, drop}
 use borrow.Author.Tests.{ltb-true, lt-ltb}
 use Rattle.octets.specs.Lent.{Outcome}
 use Rattle.octets.proofs.Choice.{choice}
-use Rattle.refusal.specs.RefusedBy.{Refusal, refused_by}
+use Rattle.refusal.specs.declared.Refusal.{Refusal}
+use Rattle.refusal.specs.declared.Refusal.TheVariants.{PastTheEnd}
+use Rattle.refusal.specs.RefusedBy.{RefusalNumber, refused_by, refusal_number}
 use Rattle.telnet.specs.Read.{event_of}
 use Rattle.telnet.specs.Record.{record_of}
-use Rattle.telnet_reader.specs.declared.Answer.{Answer}
-use Rattle.telnet_reader.specs.declared.Answer.TheVariants.{Refused as EventRefused}
-use Rattle.telnet_reader.specs.Promise.{answered, look_at, delivered, read_at, event_refusal}
+use Rattle.telnet_reader.specs.Promise.{Answer, answered, look_at, delivered, read_at}
 use Rattle.telnet_records.specs.declared.Record.{Record}
-use Rattle.telnet_records.specs.declared.Record.TheVariants.{Refused as RecordRefused}
-use Rattle.telnet_records.specs.Promise.{kept, record_at, record_refusal}
+use Rattle.telnet_records.specs.Promise.{kept, record_at}
 use Rattle.option_line.proofs.Telling.{request-tells-all, receipt-tells-all}
 use Rattle.option_line.proofs.Hearing.{hear-tells}
 use Rattle.claims.specs.Refusals.{one_of, Refuses}
@@ -31,7 +30,7 @@ pub apart : (ms : List ℕ) (k n : ℕ) → (T (one_of ms k) → ⊥) → T (one
 apart ms k n away t e = away (subst (λ m. T (one_of ms m)) e t)
 
 -- and no refusal by them is by it
-never : (ms : List ℕ) (k : ℕ) {L : Type 0} (found left : L) (r : Refusal) → (T (one_of ms k) → ⊥)
+never : (ms : List ℕ) (k : ℕ) {L : Type 0} (found left : L) (r : RefusalNumber) → (T (one_of ms k) → ⊥)
     → Refuses ms found left r → r ≡ refused_by k → ⊥
 never ms k found left r away t e = away (subst (Refuses ms found left) e t).0
 
@@ -51,18 +50,18 @@ five-first = record {
   look = λ s at.
       let f = event_of (drop at s) in
       let by = answered-by at f (by-line (drop at s)) in
-      past_first (λ (a : Answer). a) (EventRefused 5) s at _ (answered at f) refl
-      (λ e. never line 5 tt tt _ (λ x. x) by (ap event_refusal e));
+      past_first (λ (a : Answer). a) (Err PastTheEnd) s at _ (answered at f) refl
+      (λ e. never line 5 tt tt _ (λ x. x) by (ap refusal_number e));
   read = λ s at out.
       let f = event_of (drop at s) in
       let by = delivered-by at f out (by-line (drop at s)) in
-      past_first (λ (o : Outcome Answer). o.answer) (EventRefused 5) s at _ (delivered at f out) refl
-      (λ e. never (4 ∷ line) 5 out (delivered at f out).lent _ (λ x. x) by (ap event_refusal e));
+      past_first (λ (o : Outcome Answer). o.answer) (Err PastTheEnd) s at _ (delivered at f out) refl
+      (λ e. never (4 ∷ line) 5 out (delivered at f out).lent _ (λ x. x) by (ap refusal_number e));
   read_record = λ s at out.
       let g = record_of (drop at s) in
       let by = kept_by at g out (record-by (drop at s)) in
-      past_first (λ (o : Outcome Record). o.answer) (RecordRefused 5) s at _ (kept at g out) refl
-      (λ e. never (4 ∷ line) 5 out (kept at g out).lent _ (λ x. x) by (ap record_refusal e));
+      past_first (λ (o : Outcome (Result (Option Record) Refusal)). o.answer) (Err PastTheEnd) s at _ (kept at g out) refl
+      (λ e. never (4 ∷ line) 5 out (kept at g out).lent _ (λ x. x) by (ap refusal_number e));
   request = λ s w o c l at. (request-tells-all s w o c l at).five;
   receive = λ s v o accept l at. (receipt-tells-all s v o accept l at).five;
   hear = λ s heard from accept l at. (hear-tells s heard from accept l at).five;

@@ -8,8 +8,8 @@ use lib.Dec.{eqb}
 use lib.ListN.{drop}
 use borrow.Author.Tests.{eqb-true, eqb-false}
 use Rattle.octets.specs.Lent.{Outcome}
-use Rattle.refusal.specs.Refusal.{off_answered_by_on}
-use Rattle.refusal.specs.RefusedBy.{Refusal, no_refusal, refused_by, by_number}
+use Rattle.refusal.specs.Refusal.{number as number_of_refusal, off_answered_by_on}
+use Rattle.refusal.specs.RefusedBy.{RefusalNumber, no_refusal, refused_by, by_number, number_or_0}
 use Rattle.telnet.specs.declared.Verb.{Verb}
 use Rattle.telnet.specs.declared.Kind.{Kind}
 use Rattle.telnet.specs.declared.Kind.TheVariants.{Data, Command as Simple, Negotiation, Subnegotiation}
@@ -32,33 +32,33 @@ use Rattle.claims.proofs.OneOf.{of_none, more, wider, numbers_of}
 use Rattle.claims.proofs.LineRefusals.{receives, requests}
 
 -- what one side does, said of the session
-session-by : (numbers : List ℕ) (s : Sides) (w : Whose) (o : ℕ) (x : Side) (r : Refusal) → Refuses numbers (side_at s w o) x r → Refuses numbers s (with_side s w o x) r
+session-by : (numbers : List ℕ) (s : Sides) (w : Whose) (o : ℕ) (x : Side) (r : RefusalNumber) → Refuses numbers (side_at s w o) x r → Refuses numbers s (with_side s w o x) r
 session-by numbers s w o x no_refusal t = tt
 session-by numbers s w o x (refused_by n) t = (t.0, ap (with_side s w o) t.1 ∙ own-side s w o)
 
 pub session-receives : (s : Sides) (v : Verb) (o : ℕ) (accept : Bool)
-    → Refuses [] s (received s v o accept).sides (by_receipt (received s v o accept).number)
+    → Refuses [] s (received s v o accept).sides (by_receipt (number_or_0 (received s v o accept).refusal))
 session-receives s v o accept =
     let w = (told_by v).whose in
-    session-by [] s w o _ (by_receipt (received s v o accept).number) (receives o (side_at s w o) accept (told_by v).command)
+    session-by [] s w o _ (by_receipt (number_or_0 (received s v o accept).refusal)) (receives o (side_at s w o) accept (told_by v).command)
 
 pub session-requests : (s : Sides) (w : Whose) (o : ℕ) (c : Command)
-    → Refuses (10 ∷ 11 ∷ 12 ∷ 13 ∷ []) s (requested s w o c).sides (by_number (requested s w o c).number)
-session-requests s w o c = session-by (10 ∷ 11 ∷ 12 ∷ 13 ∷ []) s w o _ (by_number (requested s w o c).number) (requests o (side_at s w o) c)
+    → Refuses (10 ∷ 11 ∷ 12 ∷ 13 ∷ []) s (requested s w o c).sides (by_number (number_or_0 (requested s w o c).refusal))
+session-requests s w o c = session-by (10 ∷ 11 ∷ 12 ∷ 13 ∷ []) s w o _ (by_number (number_or_0 (requested s w o c).refusal)) (requests o (side_at s w o) c)
 
 -- what is refused by one of some numbers and leaves all as it was
-kept-so : (numbers : List ℕ) {L : Type 0} (found left : L) (r : Refusal) → RefusesBy numbers r → left ≡ found → Refuses numbers found left r
+kept-so : (numbers : List ℕ) {L : Type 0} (found left : L) (r : RefusalNumber) → RefusesBy numbers r → left ≡ found → Refuses numbers found left r
 kept-so numbers found left no_refusal t e = tt
 kept-so numbers found left (refused_by n) t e = (t.0, e)
 
 -- A step with its command on the line refuses by some numbers, if its number is one of them or none, and a refusal
 -- keeps all.
-module _ (numbers : List ℕ) (by : ℕ → Refusal) (zero-by : by 0 ≡ no_refusal)
+module _ (numbers : List ℕ) (by : ℕ → RefusalNumber) (zero-by : by 0 ≡ no_refusal)
     (note-by : RefusesBy numbers (by off_answered_by_on) → by off_answered_by_on ≡ no_refusal) (s : Sides) (l : List ℕ) (at : ℕ) (u : Outcome Sent) where
   abbrev number : ℕ
-  number = u.answer.number
+  number = number_or_0 u.answer.refusal
 
-  abbrev Goal : Refusal → Type 0
+  abbrev Goal : RefusalNumber → Type 0
   Goal r = Refuses numbers {L = Sides × (List ℕ × ℕ)} (s, (l, at)) (u.answer.sides, (u.lent, u.answer.place)) r
 
   by-note : RefusesBy numbers (by number) → Kept s l at u → (number ≡ 0 → ⊥) → (b : Bool) → eqb number off_answered_by_on ≡ b → Goal (by number)
@@ -84,7 +84,7 @@ pub line-requests : (s : Sides) (w : Whose) (o : ℕ) (c : Command) (l : List �
 unfolding one_of
 line-requests s w o c l at =
     let told = request-tells-all s w o c l at in
-    let r = by_number (requested s w o c).number in
+    let r = by_number (number_or_0 (requested s w o c).refusal) in
     on_line (5 ∷ 4 ∷ request_numbers) by_number refl (λ t. absurd t.0) s l at (requested_on s w o c l at)
     (number_by (λ n. RefusesBy (5 ∷ 4 ∷ request_numbers) (by_number n)) (tt, refl) (tt, refl) s w o _ l at (requested_on s w o c l at) told
     (numbers_of (5 ∷ 4 ∷ request_numbers) s ((requested s w o c).sides) r
@@ -93,9 +93,9 @@ line-requests s w o c l at =
 
 -- a receipt refuses nothing
 nothing-refused : (ms : List ℕ) (s : Sides) (v : Verb) (o : ℕ) (accept : Bool)
-    → RefusesBy ms (by_receipt (received s v o accept).number)
+    → RefusesBy ms (by_receipt (number_or_0 (received s v o accept).refusal))
 nothing-refused ms s v o accept =
-    let r = by_receipt (received s v o accept).number in
+    let r = by_receipt (number_or_0 (received s v o accept).refusal) in
     numbers_of ms s _ r (wider [] ms (of_none ms) s _ r (session-receives s v o accept))
 
 pub line-receives : (s : Sides) (v : Verb) (o : ℕ) (accept : Bool) (l : List ℕ) (at : ℕ)
@@ -115,7 +115,7 @@ line-hears s heard from accept l at =
     on_line (5 ∷ 4 ∷ line) by_receipt refl (λ _. refl) s l at (heard_on s heard from accept l at)
     (heard-number s heard from accept l at (λ n. RefusesBy (5 ∷ 4 ∷ line) (by_receipt n)) (tt, refl) (tt, refl) tt
     (λ v o. nothing-refused (5 ∷ 4 ∷ line) s v o accept)
-    (front_by (λ n. RefusesBy (5 ∷ 4 ∷ line) (by_receipt n)) (tt, refl) (tt, refl) (tt, refl) (tt, refl) (drop from heard)))
+    (front_by (λ why. RefusesBy (5 ∷ 4 ∷ line) (by_receipt (number_of_refusal why))) (tt, refl) (tt, refl) (tt, refl) (tt, refl) (drop from heard)))
     (hear-tells s heard from accept l at).kept
 
 pub line-hears-events : (s : Sides) (k : Kind) (accept : Bool) (l : List ℕ) (at : ℕ) → RefusesOnLine (5 ∷ 4 ∷ []) by_receipt s l at (heard_event s k accept l at)

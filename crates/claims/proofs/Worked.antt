@@ -7,7 +7,7 @@ use Prim.Native.Nat.{ℕ, zero, suc, ◌+◌, ◌≤◌, ◌<◌}
 use native.Mathlib.Omega.{arith}
 use lib.ListN.{length, replicate}
 use borrow.Author.Tests.{le-ltb}
-use Rattle.refusal.specs.Refusal.{payload_too_long, not_is_or_info, bad_table}
+use Rattle.refusal.specs.declared.Refusal.TheVariants.{PayloadTooLong, NotIsOrInfo, BadTable}
 use Rattle.names.specs.Name.{raised_byte}
 use Rattle.names.specs.Padding.{filled}
 use Rattle.names.specs.Ebcdic.{ebcdic}
@@ -36,7 +36,7 @@ none_said : Holds (is_read (0 ∷ []) (says IS []))
 unfolding is_first repeated row_of names expect_no_text variables_of distinct begun reading_of
 none_said = refl
 
-nothing_said : Holds (is_read [] (not_read not_is_or_info))
+nothing_said : Holds (is_read [] (not_read NotIsOrInfo))
 unfolding begun reading_of
 nothing_said = refl
 
@@ -57,7 +57,7 @@ letters-read n h =
     let short : length (payload_of IS (letters_a n)) ≤ payload_limit = omega (arith, letters-length n) in
     reads-back IS (letters_a n) (record { begins = tt; kinds = tt; unobjected = rw le-ltb })
 
-letters-refused : (n : ℕ) → payload_limit < 4 + n → Holds (is_read (payload_of IS (letters_a n)) (not_read payload_too_long))
+letters-refused : (n : ℕ) → payload_limit < 4 + n → Holds (is_read (payload_of IS (letters_a n)) (not_read PayloadTooLong))
 letters-refused n h = reading-long (payload_of IS (letters_a n)) (omega (arith, letters-length n))
 
 computed : (x y : End) (a b : Bool) → RestOn table (two_requests x y a b)
@@ -75,7 +75,7 @@ empty-table : Holds (is_table (0x01 ∷ []) (profiles []))
 unfolding table_of profiles_from unless_end
 empty-table = refl
 
-other-version : Holds (is_table (0x02 ∷ []) (table_refused bad_table))
+other-version : Holds (is_table (0x02 ∷ []) (table_refused BadTable))
 unfolding table_of
 other-version = refl
 

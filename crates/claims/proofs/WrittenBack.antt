@@ -1,4 +1,7 @@
 -- What the reader leaves, written, is the payload: the theorem `WrittenBack.ReadIsWrittenBack`. Assumes nothing.
+use Rattle.std.specs.Prelude.{Ok, Err}
+use Rattle.refusal.specs.declared.Refusal.{Refusal}
+use Rattle.env_delivery.specs.declared.Payload.{Payload}
 use mathlib.Core.Path.{◌≡◌, refl, ap, ◌∙◌}
 use mathlib.Core.List.{List}
 use Prim.Native.Nat.{ℕ, ◌*◌, ◌≤◌}
@@ -16,7 +19,6 @@ use Rattle.env.specs.Read.{Reading, says, not_read, reading_of}
 use Rattle.env.specs.Numbers.{record_width, packed, recorded, placed}
 use Rattle.env.proofs.Holding.{length-recorded, holds-again}
 use Rattle.env.proofs.WritingBack.{writes-back}
-use Rattle.env_delivery.specs.declared.Answer.TheVariants.{Read, Refused}
 use Rattle.env_delivery.specs.Promise.{Delivery, delivery, delivered}
 use Rattle.env_writer.specs.Promise.{put, write_into}
 use Rattle.claims.specs.WrittenBack.{ReadIsWrittenBack}
@@ -25,11 +27,11 @@ module _ (payload out : List ℕ) where
   -- a delivery that is written as the payload
   abbrev Written : Delivery → Type 0
   Written d =
-      (first count used : ℕ) → d.answer ≡ Read first count used
-      → write_into first d.bytes (take (record_width * count) d.numbers) out ≡ written_into payload out
+      (p : Payload) → d.answer ≡ Ok p
+      → write_into p.first d.bytes (take (record_width * p.count) d.numbers) out ≡ written_into payload out
 
-  refused-written : (n : ℕ) (bytes numbers : List ℕ) → Written (delivery (Refused n) bytes numbers)
-  refused-written n bytes numbers first count used e = let z : ◌≡◌ {A = ℕ} 0 1 = cc in absurd (omega arith)
+  refused-written : (why : Refusal) (bytes numbers : List ℕ) → Written (delivery (Err why) bytes numbers)
+  refused-written why bytes numbers p e = let z : ◌≡◌ {A = ℕ} 0 1 = cc in absurd (omega arith)
 
   -- variables that were read, packed and recorded where there is room
   said-written : (first : ℕ) (vs : List Variable) (bytes : List ℕ) → reading_of payload ≡ says first vs → length (packed vs) ≤ length bytes
@@ -44,13 +46,13 @@ module _ (payload out : List ℕ) where
 
   delivered-written : (r : Reading) (bytes numbers : List ℕ) → reading_of payload ≡ r → Written (delivered r bytes numbers)
   unfolding delivered
-  delivered-written (not_read n) bytes numbers e = refused-written n bytes numbers
+  delivered-written (not_read why) bytes numbers e = refused-written why bytes numbers
   delivered-written (says f vs) bytes numbers e =
       choice Written (ltb (length bytes) (length (packed vs))) (λ _. refused-written _ bytes numbers) λ room.
-      choice Written (ltb (length numbers) (length (recorded 0 vs))) (λ _. refused-written _ bytes numbers) λ _ first count used told.
-      let c : length vs ≡ count = cc in
-      let g : f ≡ first = cc in
-      let k : record_width * count ≡ length (recorded 0 vs) = omega (arith, length-recorded 0 vs) in
+      choice Written (ltb (length numbers) (length (recorded 0 vs))) (λ _. refused-written _ bytes numbers) λ _ p told.
+      let c : length vs ≡ p.count = cc in
+      let g : f ≡ p.first = cc in
+      let k : record_width * p.count ≡ length (recorded 0 vs) = omega (arith, length-recorded 0 vs) in
       let kept = ap (λ n. take n (overwrite numbers 0 (recorded 0 vs))) k ∙ take-overwrite-front numbers (recorded 0 vs) in
       rw (kept, ← g) (said-written f vs bytes e (ltb-false (length bytes) (length (packed vs)) room))
 

@@ -4,7 +4,7 @@
 -- `tv_ledger_fresh`, `tv_reader_fresh`, `tv_reader_reset` and `tv_reader_close` refuse nothing.
 use Rattle.std.specs.Prelude.{ℕ, ◌<◌, ◌≡◌, Bool, List, [], ◌∷◌, ◌++◌, ◌⊎◌}
 use Rattle.octets.specs.Lent.{Outcome}
-use Rattle.refusal.specs.RefusedBy.{Refusal, by_number}
+use Rattle.refusal.specs.RefusedBy.{RefusalNumber, by_number}
 use Rattle.refusal.specs.Written.{written_into}
 use Rattle.telnet_reader.specs.Promise.{look_at, read_at}
 use Rattle.telnet_records.specs.Promise.{record_at}
@@ -47,11 +47,11 @@ abbrev pub Writes : List ℕ → (out : List ℕ) → Outcome TvWritten → Type
 Writes numbers out o = Refuses numbers out o.lent (by_number o.answer.refusal)
 
 -- a step of the sides: with the sides as they were given
-abbrev pub Steps : List ℕ → (ℕ → Refusal) → (given : TvSides) → TvAnswered → Type 0
+abbrev pub Steps : List ℕ → (ℕ → RefusalNumber) → (given : TvSides) → TvAnswered → Type 0
 Steps numbers by given a = Refuses numbers given a.sides (by a.number)
 
 -- and with its command on a line: with sides, line and place as they were given
-abbrev pub StepsOnLine : List ℕ → (ℕ → Refusal) → (given : TvSides) (line : List ℕ) (at : ℕ) → Outcome TvSent → Type 0
+abbrev pub StepsOnLine : List ℕ → (ℕ → RefusalNumber) → (given : TvSides) (line : List ℕ) (at : ℕ) → Outcome TvSent → Type 0
 StepsOnLine numbers by given line at o =
     Refuses numbers {L = TvSides × (List ℕ × ℕ)} (given, (line, at)) (o.answer.sides, (o.lent, o.answer.place)) (by o.answer.number)
 

@@ -1,7 +1,8 @@
 -- The worked lines of the specification that are marked P ("Worked lines of the line"), in its order, as one list of
 -- cases.
-use Rattle.std.specs.Prelude.{◌≡◌, Bool, false, ◌&&◌, List, [], ◌∷◌, ◌++◌, ℕ, T, replicate}
-use Rattle.refusal.specs.Refusal.{cut_short, payload_too_long, bad_command, not_is_or_info, bad_header_length, bad_table}
+use Rattle.std.specs.Prelude.{◌≡◌, Bool, false, ◌&&◌, List, [], ◌∷◌, ◌++◌, ℕ, T, replicate, Result, Ok, Err}
+use Rattle.refusal.specs.declared.Refusal.{Refusal}
+use Rattle.refusal.specs.declared.Refusal.TheVariants.{CutShort, PayloadTooLong, BadCommand, NotIsOrInfo, BadHeaderLength, BadTable}
 use Rattle.octets.specs.Ascii.{ascii}
 use Rattle.names.specs.Ebcdic.{ebcdic_of}
 use Rattle.password_des.specs.Des.{SHIFT-RESULT, user_id, RDrSEQ}
@@ -17,8 +18,7 @@ use Rattle.option_rules.specs.Table.{Row, carried, rules_of}
 use Rattle.option_ends.specs.Ends.{End, near, far, other, request, receive, Call, ◌does◌, ends, fresh, CallResult, after, count_where, sends, same}
 use Rattle.print_frame.specs.declared.Direction.TheVariants.{Outbound}
 use Rattle.print_frame.specs.declared.Operation.TheVariants.{Print}
-use Rattle.print_frame.specs.declared.FrameAnswer.{FrameAnswer}
-use Rattle.print_frame.specs.declared.FrameAnswer.TheVariants.{Read, Refused}
+use Rattle.print_frame.specs.declared.Frame.{Frame}
 use Rattle.print_frame.specs.Frame.{flags_of, frame_of}
 use Rattle.profile.specs.Table as Table
 
@@ -36,7 +36,7 @@ pub data Case : Type 0 where
   -- both ends of an option request on
   both_request_on : Case
   -- a printer frame
-  is_frame : List ℕ → FrameAnswer → Case
+  is_frame : List ℕ → Result Frame Refusal → Case
   -- a profile table
   is_table : List ℕ → Table.TableReading → Case
 
@@ -84,8 +84,8 @@ abbrev pub ten_bytes : ℕ → List ℕ
 ten_bytes ll = 0x00 ∷ 0x0A ∷ 0x12 ∷ 0xA0 ∷ 0x01 ∷ 0x01 ∷ ll ∷ 0x00 ∷ 0x00 ∷ 0x01 ∷ []
 
 -- as it is read with LL 04: neither diagnostic bytes nor data
-abbrev pub print_of_nothing : FrameAnswer
-print_of_nothing = Read (record {
+abbrev pub print_of_nothing : Result Frame Refusal
+print_of_nothing = Ok (record {
   direction = Outbound;
   diagnostics_included = false;
   flags = flags_of 0x00;
@@ -106,22 +106,22 @@ lines =
     ∷ is_written (1 ∷ 2 ∷ 3 ∷ []) (2 ∷ 1 ∷ 2 ∷ 2 ∷ 2 ∷ 3 ∷ [])
     -- "payload 00 alone gives no variables; an empty payload gives 20"
     ∷ is_read (0 ∷ []) (says IS [])
-    ∷ is_read [] (not_read not_is_or_info)
+    ∷ is_read [] (not_read NotIsOrInfo)
     -- "FF at the end gives 1; FF F0 gives 6; FF FF gives a run of one byte 255"
-    ∷ stands (0xFF ∷ []) (refused cut_short)
-    ∷ stands (0xFF ∷ 0xF0 ∷ []) (refused bad_command)
+    ∷ stands (0xFF ∷ []) (refused CutShort)
+    ∷ stands (0xFF ∷ 0xF0 ∷ []) (refused BadCommand)
     ∷ stands (0xFF ∷ 0xFF ∷ []) (found (run (255 ∷ [])))
     -- "a payload of 1,024 is read; 1,025 gives 3": on the line, and as environment strings
     ∷ stands (subnegotiation_of 1024) (found (subnegotiation 24 (replicate 1024 0x41)))
-    ∷ stands (subnegotiation_of 1025) (refused payload_too_long)
+    ∷ stands (subnegotiation_of 1025) (refused PayloadTooLong)
     ∷ is_read (payload_of IS (letters_a 1020)) (says IS (letters_a 1020))
-    ∷ is_read (payload_of IS (letters_a 1021)) (not_read payload_too_long)
+    ∷ is_read (payload_of IS (letters_a 1021)) (not_read PayloadTooLong)
     -- "both ends request on from Off: each sends one command, both rest On", in whatever order
     ∷ both_request_on
     -- "a ten-byte frame with LL 04 is read; LL 05 gives 43"
     ∷ is_frame (ten_bytes 0x04) print_of_nothing
-    ∷ is_frame (ten_bytes 0x05) (Refused bad_header_length)
+    ∷ is_frame (ten_bytes 0x05) (Err BadHeaderLength)
     -- "table 01 is good and empty; 02 gives 30"
     ∷ is_table (0x01 ∷ []) (Table.profiles [])
-    ∷ is_table (0x02 ∷ []) (Table.table_refused bad_table)
+    ∷ is_table (0x02 ∷ []) (Table.table_refused BadTable)
     ∷ []

@@ -1,5 +1,5 @@
 // Cipher block chaining.
-ghost use Rattle.std.specs.Prelude.{◌≡◌, length};
+ghost use Rattle.std.specs.Prelude.{◌≡◌};
 ghost use Rattle.des.specs.Cipher.{chained};
 ghost use Rattle.des_cipher.specs.Internal.Boxes.{box_array};
 ghost use Rattle.des.specs.Schedule.{round_keys};
@@ -10,14 +10,12 @@ use des_schedule::key_schedule;
 
 // The last block of a chain from eight zeros under round keys.
 fn chain(keys: &[[u8; 8]; 16], boxes: &[u8; 512], blocks: &[u64]) -> u64
-    requires { (length keys.now ≡ 16) × (boxes.now ≡ box_array) }
+    requires { boxes.now ≡ box_array }
     ensures { result ≡ chained keys.now 0 blocks.now }
 {
     let mut last: u64 = 0;
-    let mut i = 0;
-    while i < blocks.len() {
-        last = encipher_by(keys, boxes, last ^ blocks[i]);
-        i += 1;
+    for block in blocks {
+        last = encipher_by(keys, boxes, last ^ *block);
     }
     last
 }

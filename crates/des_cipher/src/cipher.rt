@@ -1,5 +1,5 @@
 // Enciphering one block.
-ghost use Rattle.std.specs.Prelude.{[], ◌≡◌, suc, ◌-◌, ◌*◌, ◌/◌, ◌%◌, ◌^◌, ◌<◌, length, get_or};
+ghost use Rattle.std.specs.Prelude.{◌≡◌, suc, ◌-◌, ◌*◌, ◌/◌, ◌%◌, ◌^◌, ◌<◌, get_or};
 ghost use Rattle.std.specs.Int.Bits.{bit_xor};
 ghost use Rattle.des.specs.Blocks.{permuted};
 ghost use Rattle.des.specs.Cipher.{S, selected, f, output, enciphered};
@@ -18,12 +18,12 @@ fn widen(r: u64) -> u64
     ((r & 1) << 33) ^ (r << 1) ^ (r >> 31)
 }
 
-// What S box `j` + 1 gives for its six bits: those of E(R) added to those of round key `i` + 1.
-fn boxed(boxes: &[u8; 512], e: u64, keys: &[[u8; 8]; 16], i: usize, j: usize) -> u8
-    requires { (boxes.now ≡ box_array) × (i < 16) × (j < 8) }
-    ensures { result ≡ selected (S (suc j)) (bit_xor (e / 2 ^ (28 - 4 * j) % 2 ^ 6) (get_or (get_or keys.now i []) j 0)) }
+// What S box `j` + 1 gives for its six bits: those of E(R) added to those of a round key.
+fn boxed(boxes: &[u8; 512], e: u64, key: &[u8; 8], j: usize) -> u8
+    requires { (boxes.now ≡ box_array) × (j < 8) }
+    ensures { result ≡ selected (S (suc j)) (bit_xor (e / 2 ^ (28 - 4 * j) % 2 ^ 6) (get_or key.now j 0)) }
 {
-    let b = (((e >> (28 - 4 * j)) & 63) as u8 ^ keys[i][j]) & 63;
+    let b = (((e >> (28 - 4 * j)) & 63) as u8 ^ key[j]) & 63;
     boxes[64 * j + (b as usize)]
 }
 
@@ -54,35 +54,31 @@ fn permute_p(word: u64) -> u64
         ^ ((x >> 29) & 0x20)
 }
 
-// The cipher function with round key `i` + 1.
-fn mix(r: u64, keys: &[[u8; 8]; 16], i: usize, boxes: &[u8; 512]) -> u64
-    requires { (r < 2 ^ 32) × (i < 16) × (boxes.now ≡ box_array) }
-    ensures { result ≡ f r (get_or keys.now i []) }
+// The cipher function with a round key.
+fn mix(r: u64, key: &[u8; 8], boxes: &[u8; 512]) -> u64
+    requires { (r < 2 ^ 32) × (boxes.now ≡ box_array) }
+    ensures { result ≡ f r key.now }
 {
     let e = widen(r);
     let mut out: u64 = 0;
-    let mut j = 0;
-    while j < 8 {
-        out = (out << 4) | (boxed(boxes, e, keys, i, j) as u64);
-        j += 1;
+    for j in 0..8 {
+        out = (out << 4) | u64::from(boxed(boxes, e, key, j));
     }
     permute_p(out)
 }
 
 // Enciphers a block under round keys, with the boxes lent.
 pub(crate) fn encipher_by(keys: &[[u8; 8]; 16], boxes: &[u8; 512], block: u64) -> u64
-    requires { (length keys.now ≡ 16) × (boxes.now ≡ box_array) }
+    requires { boxes.now ≡ box_array }
     ensures { result ≡ output keys.now block }
 {
     let start = initial_permutation(block);
     let mut left = start >> 32;
     let mut right = start & 0xFFFFFFFF;
-    let mut i = 0;
-    while i < 16 {
-        let next = left ^ mix(right, keys, i, boxes);
+    for key in keys {
+        let next = left ^ mix(right, key, boxes);
         left = right;
         right = next;
-        i += 1;
     }
     final_permutation((right << 32) | left)
 }

@@ -17,11 +17,9 @@ fn permute(x: u64, width: u32, places: &[u8]) -> u64
     ensures { result ≡ permuted width places.now x }
 {
     let mut out: u64 = 0;
-    let mut i = 0;
-    while i < places.len() {
-        let p = places[i] as u32;
+    for p in places {
+        let p = u32::from(*p);
         out = (out << 1) | ((x >> (width - p)) & 1);
-        i += 1;
     }
     out
 }

@@ -109,13 +109,11 @@ pub fn key_schedule(key: u64) -> [[u8; 8]; 16]
     let mut c = start >> 28;
     let mut d = start & 0xFFFFFFF;
     let mut keys = [[0u8; 8]; 16];
-    let mut i = 0;
-    while i < 16 {
+    for i in 0..16 {
         let n = shift_at(i);
         c = rotate(c, n);
         d = rotate(d, n);
         keys[i] = key_of(c, d);
-        i += 1;
     }
     keys
 }

@@ -7,7 +7,8 @@ use Prim.Native.Nat.{ℕ, suc}
 use lib.Dec.{ltb}
 use lib.ListN.{length}
 use Rattle.octets.proofs.Choice.{choice₂}
-use Rattle.refusal.specs.Refusal.{no_variable, value_in_value}
+use Rattle.refusal.specs.declared.Refusal.{Refusal}
+use Rattle.refusal.specs.declared.Refusal.TheVariants.{NoVariable, ValueInValue}
 use Rattle.telnet.specs.Event.{payload_limit}
 use Rattle.env.specs.Variable.{undefined, defined, Variable, variable, variable_limit, is_first, is, among, repeated}
 use Rattle.env.specs.Fields.{Text, text, broken, Field, name_field, value_field, row_of}
@@ -35,24 +36,24 @@ in-limited : (k : ℕ) (f g : Found) → Before f g → Before (limited k f) (li
 unfolding limited
 in-limited k f g h = choice₂ Before (ltb k variable_limit) (λ _. h) (λ _. refl)
 
-names-before : (number k : ℕ) (fs : List Field) → Before (names number k fs) (names_before number k fs)
+names-before : (wrong : Refusal) (k : ℕ) (fs : List Field) → Before (names wrong k fs) (names_before wrong k fs)
 unfolding names names_before whole named add_variable bytes_of
-names-before number k [] = refl
-names-before number k (value_field t ∷ fs) = refl
-names-before number k (name_field kind broken ∷ value_field u ∷ fs) = in-limited k _ _ refl
-names-before number k (name_field kind (text []) ∷ value_field u ∷ fs) = in-limited k _ _ refl
-names-before number k (name_field kind (text (b ∷ bs)) ∷ value_field broken ∷ fs) = in-limited k _ _ refl
-names-before number k (name_field kind (text (b ∷ bs)) ∷ value_field (text v) ∷ fs) =
+names-before wrong k [] = refl
+names-before wrong k (value_field t ∷ fs) = refl
+names-before wrong k (name_field kind broken ∷ value_field u ∷ fs) = in-limited k _ _ refl
+names-before wrong k (name_field kind (text []) ∷ value_field u ∷ fs) = in-limited k _ _ refl
+names-before wrong k (name_field kind (text (b ∷ bs)) ∷ value_field broken ∷ fs) = in-limited k _ _ refl
+names-before wrong k (name_field kind (text (b ∷ bs)) ∷ value_field (text v) ∷ fs) =
     in-limited k _ _
-    (adds (variable kind (b ∷ bs) (defined v)) (variable kind (b ∷ bs) (defined v)) (names value_in_value (suc k) fs) _ refl (names-before _ (suc k) fs))
-names-before number k (name_field kind broken ∷ []) = in-limited k _ _ refl
-names-before number k (name_field kind (text []) ∷ []) = in-limited k _ _ refl
-names-before number k (name_field kind (text (b ∷ bs)) ∷ []) = in-limited k _ _ refl
-names-before number k (name_field kind broken ∷ name_field kind₂ u ∷ fs) = in-limited k _ _ refl
-names-before number k (name_field kind (text []) ∷ name_field kind₂ u ∷ fs) = in-limited k _ _ refl
-names-before number k (name_field kind (text (b ∷ bs)) ∷ name_field kind₂ u ∷ fs) =
+    (adds (variable kind (b ∷ bs) (defined v)) (variable kind (b ∷ bs) (defined v)) (names ValueInValue (suc k) fs) _ refl (names-before _ (suc k) fs))
+names-before wrong k (name_field kind broken ∷ []) = in-limited k _ _ refl
+names-before wrong k (name_field kind (text []) ∷ []) = in-limited k _ _ refl
+names-before wrong k (name_field kind (text (b ∷ bs)) ∷ []) = in-limited k _ _ refl
+names-before wrong k (name_field kind broken ∷ name_field kind₂ u ∷ fs) = in-limited k _ _ refl
+names-before wrong k (name_field kind (text []) ∷ name_field kind₂ u ∷ fs) = in-limited k _ _ refl
+names-before wrong k (name_field kind (text (b ∷ bs)) ∷ name_field kind₂ u ∷ fs) =
     in-limited k _ _
-    (adds (variable kind (b ∷ bs) undefined) (variable kind (b ∷ bs) (defined [])) (names no_variable (suc k) (name_field kind₂ u ∷ fs)) _ refl
+    (adds (variable kind (b ∷ bs) undefined) (variable kind (b ∷ bs) (defined [])) (names NoVariable (suc k) (name_field kind₂ u ∷ fs)) _ refl
     (names-before _ (suc k) (name_field kind₂ u ∷ fs)))
 
 unled : (t : Text) (f g : Found) → Before f g → Before (expect_no_text t f) (expect_no_text t g)

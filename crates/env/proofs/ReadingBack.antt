@@ -12,7 +12,8 @@ use denote.Floats.{is_true}
 use borrow.Author.Tests.{le-ltb, ltb-false}
 use Rattle.octets.proofs.Choice.{choice}
 use Rattle.telnet.specs.Event.{payload_limit}
-use Rattle.refusal.specs.Refusal.{no_variable, value_in_value}
+use Rattle.refusal.specs.declared.Refusal.{Refusal}
+use Rattle.refusal.specs.declared.Refusal.TheVariants.{NoVariable, ValueInValue}
 use Rattle.env.specs.Variable.{Value, undefined, defined, Variable, variable, variable_limit, is_first, repeated}
 use Rattle.env.specs.Fields.{text, Field, name_field, value_field, row, starts_name, starts_value, row_of}
 use Rattle.env.specs.Read.{Found, variables, add_variable, whole, named, names, expect_no_text, variables_of, distinct, begun}
@@ -58,28 +59,28 @@ named-full found [] e = cc
 named-full found (b ∷ bs) e = refl
 
 -- a variable that is written, before fields in which others are found whatever a VALUE in front would be refused by
-name-written : (number k kind : ℕ) (name : List ℕ) (u : Value) (fs : List Field) (vs : List Variable) → k < variable_limit
-    → is_empty name ≡ false → ((n : ℕ) → names n (suc k) fs ≡ variables vs)
-    → names number k (name_field kind (text name) ∷ with_value u fs) ≡ variables (variable kind name u ∷ vs)
+name-written : (wrong : Refusal) (k kind : ℕ) (name : List ℕ) (u : Value) (fs : List Field) (vs : List Variable) → k < variable_limit
+    → is_empty name ≡ false → ((n : Refusal) → names n (suc k) fs ≡ variables vs)
+    → names wrong k (name_field kind (text name) ∷ with_value u fs) ≡ variables (variable kind name u ∷ vs)
 unfolding names whole add_variable with_value
-name-written number k kind name undefined [] vs room full h =
-    rw (limited-room k _ room, named-full _ name full) (ap (add_variable (variable kind name undefined)) (h no_variable))
-name-written number k kind name undefined (name_field kind₂ t ∷ fs) vs room full h =
-    rw (limited-room k _ room, named-full _ name full) (ap (add_variable (variable kind name undefined)) (h no_variable))
-name-written number k kind name undefined (value_field t ∷ fs) vs room full h =
-    let e = h no_variable in
+name-written wrong k kind name undefined [] vs room full h =
+    rw (limited-room k _ room, named-full _ name full) (ap (add_variable (variable kind name undefined)) (h NoVariable))
+name-written wrong k kind name undefined (name_field kind₂ t ∷ fs) vs room full h =
+    rw (limited-room k _ room, named-full _ name full) (ap (add_variable (variable kind name undefined)) (h NoVariable))
+name-written wrong k kind name undefined (value_field t ∷ fs) vs room full h =
+    let e = h NoVariable in
     let z : ◌≡◌ {A = ℕ} 0 1 = cc in
     absurd (omega arith)
-name-written number k kind name (defined value) fs vs room full h =
-    rw (limited-room k _ room, named-full _ name full) (ap (add_variable (variable kind name (defined value))) (h value_in_value))
+name-written wrong k kind name (defined value) fs vs room full h =
+    rw (limited-room k _ room, named-full _ name full) (ap (add_variable (variable kind name (defined value))) (h ValueInValue))
 
-names-written : (number k : ℕ) (vs : List Variable) → Sound k vs → names number k (fields_of vs) ≡ variables vs
+names-written : (wrong : Refusal) (k : ℕ) (vs : List Variable) → Sound k vs → names wrong k (fields_of vs) ≡ variables vs
 unfolding names fields_of
-names-written number k [] s = refl
-names-written number k (v ∷ vs) s =
+names-written wrong k [] s = refl
+names-written wrong k (v ∷ vs) s =
     let f = first-sound k v vs s in
     let fits = s.few in
-    name-written number k v.kind v.name v.value (fields_of vs) vs (omega arith) f.full (λ n. names-written n (suc k) vs f.after)
+    name-written wrong k v.kind v.name v.value (fields_of vs) vs (omega arith) f.full (λ n. names-written n (suc k) vs f.after)
 
 -- what is read without refusal, and a length within the limit, is what the writer accepts
 pub accepted : (first : ℕ) (vs : List Variable) → Says first vs → length (payload_of first vs) ≤ payload_limit → Accepted first vs
@@ -111,7 +112,7 @@ accepted-only first vs a =
     Only : Objection → Type 0
     Only o = o ≡ none → Says first vs × (length (payload_of first vs) ≤ payload_limit)
 
-    never : {A : Type 0} {n : ℕ} → against n ≡ none → A
+    never : {A : Type 0} {e : Refusal} → against e ≡ none → A
     never e = let z : ◌≡◌ {A = ℕ} 0 1 = cc in absurd (omega arith)
 
 pub reads-back : ReadsBack

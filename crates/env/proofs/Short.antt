@@ -1,18 +1,18 @@
 -- The names and values of a payload take no more bytes than the payload (`reading-fitting`), field by field. Assumes
 -- nothing.
-use mathlib.Core.Path.{◌≡◌}
 use mathlib.Core.List.{List, [], ◌∷◌, ◌++◌}
 use mathlib.Core.Logic.{⊎_elim}
 use Prim.Native.Nat.{ℕ, zero, suc, ◌+◌, ◌≤◌}
 use native.Mathlib.Omega.{arith}
 use lib.Dec.{leb, ltb}
 use lib.ListN.{length, length-append}
-use Rattle.refusal.specs.Refusal.{no_variable}
+use Rattle.refusal.specs.declared.Refusal.{Refusal}
+use Rattle.refusal.specs.declared.Refusal.TheVariants.{NoVariable}
 use Rattle.octets.proofs.Choice.{choice}
 use Rattle.octets.proofs.Order.{below-or-above}
 use Rattle.telnet.specs.Event.{payload_limit}
 use Rattle.env.specs.Variable.{undefined, defined, Variable, variable, variable_limit, is_first, repeated}
-use Rattle.env.specs.Fields.{Text, text, broken, Field, name_field, value_field, Row, row, joins, stands, escapes, starts_name, starts_value, row_of}
+use Rattle.env.specs.Fields.{Text, text, broken, Field, name_field, value_field, Row, joins, stands, escapes, starts_name, starts_value, row_of}
 use Rattle.env.specs.Read.{Found, variables, fault, add_variable, limited, whole, named, names, expect_no_text, variables_of}
 use Rattle.env.specs.Read.{Reading, says, not_read, distinct, begun, reading_of}
 use Rattle.env.specs.Numbers.{bytes_of, packed}
@@ -74,21 +74,21 @@ small-limited : (k n : ℕ) (found : Found) → Small n found → Small n (limit
 unfolding limited
 small-limited k n found h = choice (Small n) (ltb k variable_limit) (λ _. h) (λ _. tt)
 
-names-small : (number k : ℕ) (fs : List Field) → Small (fields_size fs) (names number k fs)
+names-small : (wrong : Refusal) (k : ℕ) (fs : List Field) → Small (fields_size fs) (names wrong k fs)
 unfolding names whole named packed bytes_of
-names-small number k [] = omega arith
-names-small number k (value_field t ∷ fs) = tt
-names-small number k (name_field kind broken ∷ value_field u ∷ fs) = small-limited k _ (fault _) tt
-names-small number k (name_field kind (text []) ∷ value_field u ∷ fs) = small-limited k _ (fault _) tt
-names-small number k (name_field kind (text (b ∷ bs)) ∷ value_field broken ∷ fs) = small-limited k _ (fault _) tt
-names-small number k (name_field kind (text (b ∷ bs)) ∷ value_field (text v) ∷ fs) =
+names-small wrong k [] = omega arith
+names-small wrong k (value_field t ∷ fs) = tt
+names-small wrong k (name_field kind broken ∷ value_field u ∷ fs) = small-limited k _ (fault _) tt
+names-small wrong k (name_field kind (text []) ∷ value_field u ∷ fs) = small-limited k _ (fault _) tt
+names-small wrong k (name_field kind (text (b ∷ bs)) ∷ value_field broken ∷ fs) = small-limited k _ (fault _) tt
+names-small wrong k (name_field kind (text (b ∷ bs)) ∷ value_field (text v) ∷ fs) =
     small-limited k _ _ (small-before (variable kind (b ∷ bs) (defined v)) _ (fields_size fs) (names-small _ (suc k) fs))
-names-small number k (name_field kind broken ∷ []) = small-limited k _ (fault _) tt
-names-small number k (name_field kind (text []) ∷ []) = small-limited k _ (fault _) tt
-names-small number k (name_field kind (text (b ∷ bs)) ∷ []) = small-limited k _ _ (small-before (variable kind (b ∷ bs) undefined) (variables []) 0 (omega arith))
-names-small number k (name_field kind broken ∷ name_field kind₂ u ∷ fs) = small-limited k _ (fault _) tt
-names-small number k (name_field kind (text []) ∷ name_field kind₂ u ∷ fs) = small-limited k _ (fault _) tt
-names-small number k (name_field kind (text (b ∷ bs)) ∷ name_field kind₂ u ∷ fs) =
+names-small wrong k (name_field kind broken ∷ []) = small-limited k _ (fault _) tt
+names-small wrong k (name_field kind (text []) ∷ []) = small-limited k _ (fault _) tt
+names-small wrong k (name_field kind (text (b ∷ bs)) ∷ []) = small-limited k _ _ (small-before (variable kind (b ∷ bs) undefined) (variables []) 0 (omega arith))
+names-small wrong k (name_field kind broken ∷ name_field kind₂ u ∷ fs) = small-limited k _ (fault _) tt
+names-small wrong k (name_field kind (text []) ∷ name_field kind₂ u ∷ fs) = small-limited k _ (fault _) tt
+names-small wrong k (name_field kind (text (b ∷ bs)) ∷ name_field kind₂ u ∷ fs) =
     small-limited k _ _ (small-alone kind (b ∷ bs) _ _ (names-small _ (suc k) (name_field kind₂ u ∷ fs)))
 
 unled-small : (n : ℕ) (t : Text) (found : Found) → Small n found → Small n (expect_no_text t found)
@@ -100,9 +100,9 @@ unled-small n (text (b ∷ bs)) found s = tt
 variables-small : (bs : List ℕ) → Small (length bs) (variables_of (row_of bs))
 unfolding variables_of
 variables-small bs =
-    let found = names no_variable 0 (row_of bs).fields in
+    let found = names NoVariable 0 (row_of bs).fields in
     unled-small (length bs) (row_of bs).front found
-    (wider (fields_size (row_of bs).fields) (length bs) found (omega (arith, row-size bs)) (names-small no_variable 0 (row_of bs).fields))
+    (wider (fields_size (row_of bs).fields) (length bs) found (omega (arith, row-size bs)) (names-small NoVariable 0 (row_of bs).fields))
 
 -- a reading whose variables take at most n bytes
 abbrev pub Fitting : ℕ → Reading → Type 0

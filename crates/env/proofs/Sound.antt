@@ -15,6 +15,8 @@ use Rattle.octets.proofs.Order.{below-or-above}
 use Rattle.telnet.specs.Event.{payload_limit}
 use Rattle.env.specs.Variable.{undefined, defined, Variable, variable, variable_limit, is_first, is_kind, repeated}
 use Rattle.env.specs.Fields.{Text, text, broken, Field, name_field, value_field, Row, stands, escapes, starts_name, starts_value, row_of}
+use Rattle.refusal.specs.declared.Refusal.{Refusal}
+use Rattle.refusal.specs.Refusal.{number}
 use Rattle.env.specs.Read.{Found, variables, fault, add_variable, limited, whole, named, names, expect_no_text, variables_of}
 use Rattle.env.specs.Read.{Reading, says, not_read, distinct, begun, reading_of}
 use Rattle.env.specs.Write.{kinds_good, is_empty, nameless}
@@ -68,9 +70,9 @@ row-kinds (suc (suc zero) ∷ b ∷ bs) = choice (λ (r : Row). Kinds r.fields) 
 row-kinds (suc (suc (suc zero)) ∷ bs) = (tt, row-kinds bs)
 row-kinds (suc (suc (suc (suc b))) ∷ bs) = row-kinds bs
 
--- the numbers of the faults of a row
-abbrev pub Inner : ℕ → Type 0
-Inner n = (20 < n) × (n < 25)
+-- the faults of a row, by their numbers
+abbrev pub Inner : Refusal → Type 0
+Inner e = (20 < number e) × (number e < 25)
 
 -- what is found is sound, or such a fault
 abbrev pub Finds : ℕ → Found → Type 0
@@ -104,17 +106,17 @@ finds-opened k t rest next =
     go h [] = omega arith
     go h (b ∷ bs) = next b bs h
 
-finds-names : (number k : ℕ) (fs : List Field) → Inner number → Kinds fs → k ≤ variable_limit
-    → Finds k (names number k fs)
+finds-names : (wrong : Refusal) (k : ℕ) (fs : List Field) → Inner wrong → Kinds fs → k ≤ variable_limit
+    → Finds k (names wrong k fs)
 unfolding names is_empty
-finds-names number k [] i g h = finds-none k h
-finds-names number k (value_field t ∷ fs) i g h = i
-finds-names number k (name_field kind t ∷ value_field u ∷ fs) i g h = finds-opened k t _ λ b bs room.
+finds-names wrong k [] i g h = finds-none k h
+finds-names wrong k (value_field t ∷ fs) i g h = i
+finds-names wrong k (name_field kind t ∷ value_field u ∷ fs) i g h = finds-opened k t _ λ b bs room.
     finds-whole k u _ λ cs.
     finds-before k (variable kind (b ∷ bs) (defined cs)) _ g.0 refl (finds-names _ (suc k) fs (omega arith) g.1 room)
-finds-names number k (name_field kind t ∷ []) i g h = finds-opened k t _ λ b bs room.
+finds-names wrong k (name_field kind t ∷ []) i g h = finds-opened k t _ λ b bs room.
     finds-before k (variable kind (b ∷ bs) undefined) (variables []) g.0 refl (finds-none (suc k) room)
-finds-names number k (name_field kind t ∷ name_field kind₂ u ∷ fs) i g h = finds-opened k t _ λ b bs room.
+finds-names wrong k (name_field kind t ∷ name_field kind₂ u ∷ fs) i g h = finds-opened k t _ λ b bs room.
     finds-before k (variable kind (b ∷ bs) undefined) _ g.0 refl
     (finds-names _ (suc k) (name_field kind₂ u ∷ fs) (omega arith) g.1 room)
 

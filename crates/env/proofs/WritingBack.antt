@@ -12,6 +12,7 @@ use Rattle.octets.proofs.Order.{below-or-above}
 use Rattle.telnet.specs.Event.{payload_limit}
 use Rattle.env.specs.Variable.{undefined, defined, variable, VALUE, ESC, variable_limit, is_first, repeated}
 use Rattle.env.specs.Fields.{Text, text, broken, Field, name_field, value_field, Row, joins, stands, starts_name, starts_value, row_of}
+use Rattle.refusal.specs.declared.Refusal.{Refusal}
 use Rattle.env.specs.Read.{Found, variables, fault, add_variable, limited, whole, named, names, expect_no_text, variables_of}
 use Rattle.env.specs.Read.{Reading, says, not_read, distinct, begun}
 use Rattle.env.specs.Write.{escaped, written_value, written_variable, written_variables, payload_of}
@@ -118,22 +119,22 @@ writes-limited : (k : ℕ) (fs : List Field) (found : Found) → Writes fs found
 unfolding limited
 writes-limited k fs found w = choice (Writes fs) (ltb k variable_limit) (λ _. w) (λ _. tt)
 
-names-write : (number k : ℕ) (fs : List Field) → Writes fs (names number k fs)
+names-write : (wrong : Refusal) (k : ℕ) (fs : List Field) → Writes fs (names wrong k fs)
 unfolding names whole named written_variables
-names-write number k [] = (tt, refl)
-names-write number k (value_field t ∷ fs) = tt
-names-write number k (name_field kind broken ∷ value_field u ∷ fs) = writes-limited k (name_field kind broken ∷ value_field u ∷ fs) (fault _) tt
-names-write number k (name_field kind (text []) ∷ value_field u ∷ fs) = writes-limited k (name_field kind (text []) ∷ value_field u ∷ fs) (fault _) tt
-names-write number k (name_field kind (text (b ∷ bs)) ∷ value_field broken ∷ fs) = writes-limited k (name_field kind (text (b ∷ bs)) ∷ value_field broken ∷ fs) (fault _) tt
-names-write number k (name_field kind (text (b ∷ bs)) ∷ value_field (text v) ∷ fs) =
+names-write wrong k [] = (tt, refl)
+names-write wrong k (value_field t ∷ fs) = tt
+names-write wrong k (name_field kind broken ∷ value_field u ∷ fs) = writes-limited k (name_field kind broken ∷ value_field u ∷ fs) (fault _) tt
+names-write wrong k (name_field kind (text []) ∷ value_field u ∷ fs) = writes-limited k (name_field kind (text []) ∷ value_field u ∷ fs) (fault _) tt
+names-write wrong k (name_field kind (text (b ∷ bs)) ∷ value_field broken ∷ fs) = writes-limited k (name_field kind (text (b ∷ bs)) ∷ value_field broken ∷ fs) (fault _) tt
+names-write wrong k (name_field kind (text (b ∷ bs)) ∷ value_field (text v) ∷ fs) =
     writes-limited k (name_field kind (text (b ∷ bs)) ∷ value_field (text v) ∷ fs) _ (writes-defined kind (b ∷ bs) v fs _ (names-write _ (suc k) fs))
-names-write number k (name_field kind broken ∷ []) = writes-limited k (name_field kind broken ∷ []) (fault _) tt
-names-write number k (name_field kind (text []) ∷ []) = writes-limited k (name_field kind (text []) ∷ []) (fault _) tt
-names-write number k (name_field kind (text (b ∷ bs)) ∷ []) =
+names-write wrong k (name_field kind broken ∷ []) = writes-limited k (name_field kind broken ∷ []) (fault _) tt
+names-write wrong k (name_field kind (text []) ∷ []) = writes-limited k (name_field kind (text []) ∷ []) (fault _) tt
+names-write wrong k (name_field kind (text (b ∷ bs)) ∷ []) =
     writes-limited k (name_field kind (text (b ∷ bs)) ∷ []) _ (writes-undefined kind (b ∷ bs) [] (variables []) (tt, refl))
-names-write number k (name_field kind broken ∷ name_field kind₂ u ∷ fs) = writes-limited k (name_field kind broken ∷ name_field kind₂ u ∷ fs) (fault _) tt
-names-write number k (name_field kind (text []) ∷ name_field kind₂ u ∷ fs) = writes-limited k (name_field kind (text []) ∷ name_field kind₂ u ∷ fs) (fault _) tt
-names-write number k (name_field kind (text (b ∷ bs)) ∷ name_field kind₂ u ∷ fs) =
+names-write wrong k (name_field kind broken ∷ name_field kind₂ u ∷ fs) = writes-limited k (name_field kind broken ∷ name_field kind₂ u ∷ fs) (fault _) tt
+names-write wrong k (name_field kind (text []) ∷ name_field kind₂ u ∷ fs) = writes-limited k (name_field kind (text []) ∷ name_field kind₂ u ∷ fs) (fault _) tt
+names-write wrong k (name_field kind (text (b ∷ bs)) ∷ name_field kind₂ u ∷ fs) =
     writes-limited k (name_field kind (text (b ∷ bs)) ∷ name_field kind₂ u ∷ fs) _ (writes-undefined kind (b ∷ bs) (name_field kind₂ u ∷ fs) _ (names-write _ (suc k) (name_field kind₂ u ∷ fs)))
 
 -- and so of a row, of the bytes that it was read from, and of a payload

@@ -3,7 +3,7 @@
 use Rattle.std.specs.Prelude.{◌≡◌, List, [], ◌∷◌, ◌++◌, ℕ, zero, suc, ◌+◌}
 use Rattle.env.specs.Variable.{undefined, defined, Variable, variable, IS, INFO, VAR, USERVAR}
 use Rattle.env.specs.Read.{Reading, says, not_read, reading_of}
-use Rattle.refusal.specs.Refusal.{not_is_or_info, no_variable, bad_escape, value_in_value, too_many_variables, repeated_variable}
+use Rattle.refusal.specs.declared.Refusal.TheVariants.{NotIsOrInfo, NoVariable, BadEscape, ValueInValue, TooManyVariables, RepeatedVariable}
 
 pub record Case : Type 0 where
   pub payload : List ℕ
@@ -36,40 +36,40 @@ A = 0x41 ∷ []
 abbrev pub boundaries : List Case
 boundaries =
     -- SEND is no first byte, INFO is one
-    case (1 ∷ 0 ∷ 0x41 ∷ []) (not_read not_is_or_info)
+    case (1 ∷ 0 ∷ 0x41 ∷ []) (not_read NotIsOrInfo)
     ∷ case (2 ∷ 0 ∷ 0x41 ∷ []) (says INFO (variable VAR A undefined ∷ []))
     -- an ESC, a VALUE or a letter where a variable is expected
-    ∷ case (0 ∷ 2 ∷ []) (not_read no_variable)
-    ∷ case (0 ∷ 2 ∷ 5 ∷ []) (not_read no_variable)
-    ∷ case (0 ∷ 2 ∷ 0 ∷ []) (not_read no_variable)
-    ∷ case (0 ∷ 1 ∷ []) (not_read no_variable)
-    ∷ case (0 ∷ 0x41 ∷ []) (not_read no_variable)
+    ∷ case (0 ∷ 2 ∷ []) (not_read NoVariable)
+    ∷ case (0 ∷ 2 ∷ 5 ∷ []) (not_read NoVariable)
+    ∷ case (0 ∷ 2 ∷ 0 ∷ []) (not_read NoVariable)
+    ∷ case (0 ∷ 1 ∷ []) (not_read NoVariable)
+    ∷ case (0 ∷ 0x41 ∷ []) (not_read NoVariable)
     -- a name that ends at once, and one that is only a bad ESC
-    ∷ case (0 ∷ 0 ∷ []) (not_read no_variable)
-    ∷ case (0 ∷ 0 ∷ 1 ∷ 0x41 ∷ []) (not_read no_variable)
-    ∷ case (0 ∷ 0 ∷ 2 ∷ []) (not_read bad_escape)
-    ∷ case (0 ∷ 0 ∷ 2 ∷ 5 ∷ []) (not_read bad_escape)
+    ∷ case (0 ∷ 0 ∷ []) (not_read NoVariable)
+    ∷ case (0 ∷ 0 ∷ 1 ∷ 0x41 ∷ []) (not_read NoVariable)
+    ∷ case (0 ∷ 0 ∷ 2 ∷ []) (not_read BadEscape)
+    ∷ case (0 ∷ 0 ∷ 2 ∷ 5 ∷ []) (not_read BadEscape)
     -- a name without VALUE, and with an empty one
     ∷ case (0 ∷ 0 ∷ 0x41 ∷ []) (says IS (variable VAR A undefined ∷ []))
     ∷ case (0 ∷ 0 ∷ 0x41 ∷ 1 ∷ []) (says IS (variable VAR A (defined []) ∷ []))
     -- VALUE inside a value, before and after a bad ESC
-    ∷ case (0 ∷ 0 ∷ 0x41 ∷ 1 ∷ 1 ∷ []) (not_read value_in_value)
-    ∷ case (0 ∷ 0 ∷ 0x41 ∷ 1 ∷ 1 ∷ 2 ∷ 5 ∷ []) (not_read value_in_value)
-    ∷ case (0 ∷ 0 ∷ 0x41 ∷ 1 ∷ 2 ∷ 5 ∷ 1 ∷ []) (not_read bad_escape)
+    ∷ case (0 ∷ 0 ∷ 0x41 ∷ 1 ∷ 1 ∷ []) (not_read ValueInValue)
+    ∷ case (0 ∷ 0 ∷ 0x41 ∷ 1 ∷ 1 ∷ 2 ∷ 5 ∷ []) (not_read ValueInValue)
+    ∷ case (0 ∷ 0 ∷ 0x41 ∷ 1 ∷ 2 ∷ 5 ∷ 1 ∷ []) (not_read BadEscape)
     -- the same name: of another kind, in another case, escaped, and before a fault further right
     ∷ case (0 ∷ 0 ∷ 0x41 ∷ 3 ∷ 0x41 ∷ []) (says IS (variable VAR A undefined ∷ variable USERVAR A undefined ∷ []))
     ∷ case (0 ∷ 0 ∷ 0x41 ∷ 0 ∷ 0x61 ∷ []) (says IS (variable VAR A undefined ∷ variable VAR (0x61 ∷ []) undefined ∷ []))
-    ∷ case (0 ∷ 0 ∷ 2 ∷ 1 ∷ 0 ∷ 2 ∷ 1 ∷ []) (not_read repeated_variable)
-    ∷ case (0 ∷ 0 ∷ 0x41 ∷ 0 ∷ 0x41 ∷ 1 ∷ 2 ∷ []) (not_read bad_escape)
+    ∷ case (0 ∷ 0 ∷ 2 ∷ 1 ∷ 0 ∷ 2 ∷ 1 ∷ []) (not_read RepeatedVariable)
+    ∷ case (0 ∷ 0 ∷ 0x41 ∷ 0 ∷ 0x41 ∷ 1 ∷ 2 ∷ []) (not_read BadEscape)
     -- the same name without VALUE and with one, either first
-    ∷ case (0 ∷ 0 ∷ 0x41 ∷ 0 ∷ 0x41 ∷ 1 ∷ 0x42 ∷ []) (not_read repeated_variable)
-    ∷ case (0 ∷ 0 ∷ 0x41 ∷ 1 ∷ 0x42 ∷ 0 ∷ 0x41 ∷ []) (not_read repeated_variable)
+    ∷ case (0 ∷ 0 ∷ 0x41 ∷ 0 ∷ 0x41 ∷ 1 ∷ 0x42 ∷ []) (not_read RepeatedVariable)
+    ∷ case (0 ∷ 0 ∷ 0x41 ∷ 1 ∷ 0x42 ∷ 0 ∷ 0x41 ∷ []) (not_read RepeatedVariable)
     -- "64 variables are read; a 65th gives 24", at its first byte
     ∷ case (after_several 64 []) (says IS (several 64))
-    ∷ case (after_several 64 (0 ∷ [])) (not_read too_many_variables)
-    ∷ case (after_several 64 (0 ∷ 2 ∷ 5 ∷ [])) (not_read too_many_variables)
+    ∷ case (after_several 64 (0 ∷ [])) (not_read TooManyVariables)
+    ∷ case (after_several 64 (0 ∷ 2 ∷ 5 ∷ [])) (not_read TooManyVariables)
     -- a fault of the 64th comes before the 65th
-    ∷ case (after_several 64 (1 ∷ 0x41 ∷ 1 ∷ [])) (not_read value_in_value)
-    ∷ case (after_several 64 (2 ∷ [])) (not_read bad_escape)
-    ∷ case (after_several 63 (0 ∷ 0 ∷ 0x7A ∷ [])) (not_read no_variable)
+    ∷ case (after_several 64 (1 ∷ 0x41 ∷ 1 ∷ [])) (not_read ValueInValue)
+    ∷ case (after_several 64 (2 ∷ [])) (not_read BadEscape)
+    ∷ case (after_several 63 (0 ∷ 0 ∷ 0x7A ∷ [])) (not_read NoVariable)
     ∷ []

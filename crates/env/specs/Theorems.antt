@@ -10,6 +10,8 @@ use Rattle.env.specs.Write.{payload_of, kinds_good, Accepted}
 use Rattle.env.specs.Numbers.{packed, recorded, variables_held, placed}
 use Rattle.env.specs.Before.{without_mark, reading_before}
 use Rattle.octets.specs.Lent.{overwrite}
+use Rattle.refusal.specs.declared.Refusal.{Refusal}
+use Rattle.refusal.specs.declared.Refusal.TheVariants.{PayloadTooLong, NotIsOrInfo, NoVariable, BadEscape, ValueInValue, TooManyVariables, RepeatedVariable}
 
 -- What the writer accepts and writes is read back: the same first byte and the same kinds, names and values in order,
 -- undefined where they were undefined.
@@ -70,29 +72,29 @@ abbrev pub RepeatedIsTwice : Type 0
 RepeatedIsTwice = (vs : List Variable) → T (repeated vs) ↔ Twice vs
 
 -- a fault of some bytes is the fault of every payload that begins with them
-abbrev pub Stays : (p : List ℕ) (n : ℕ) → Type 0
-Stays p n = (more : List ℕ) → length (p ++ more) ≤ 1024 → reading_of (p ++ more) ≡ not_read n
+abbrev pub Stays : (p : List ℕ) (e : Refusal) → Type 0
+Stays p e = (more : List ℕ) → length (p ++ more) ≤ 1024 → reading_of (p ++ more) ≡ not_read e
 
 -- "Framing and environment faults: the first met from left to right". Only the end of a payload can be told by 20, 21
 -- and 22 as well: an empty one, a VAR or USERVAR with nothing after it, an ESC with nothing after it.
 pub record FirstFaultDecides : Type 0 where
-  pub not_is_or_info : (b : ℕ) (p : List ℕ) → reading_of (b ∷ p) ≡ not_read 20 → Stays (b ∷ p) 20
-  pub no_variable : (p : List ℕ) (b : ℕ) → (b ≡ VAR → ⊥) → (b ≡ USERVAR → ⊥) → reading_of (p ++ b ∷ []) ≡ not_read 21 → Stays (p ++ b ∷ []) 21
-  pub bad_escape : (p : List ℕ) (b : ℕ) → (b ≡ ESC → ⊥) → reading_of (p ++ b ∷ []) ≡ not_read 22 → Stays (p ++ b ∷ []) 22
-  pub value_in_value : (p : List ℕ) → reading_of p ≡ not_read 23 → Stays p 23
-  pub too_many : (p : List ℕ) → reading_of p ≡ not_read 24 → Stays p 24
+  pub not_is_or_info : (b : ℕ) (p : List ℕ) → reading_of (b ∷ p) ≡ not_read NotIsOrInfo → Stays (b ∷ p) NotIsOrInfo
+  pub no_variable : (p : List ℕ) (b : ℕ) → (b ≡ VAR → ⊥) → (b ≡ USERVAR → ⊥) → reading_of (p ++ b ∷ []) ≡ not_read NoVariable → Stays (p ++ b ∷ []) NoVariable
+  pub bad_escape : (p : List ℕ) (b : ℕ) → (b ≡ ESC → ⊥) → reading_of (p ++ b ∷ []) ≡ not_read BadEscape → Stays (p ++ b ∷ []) BadEscape
+  pub value_in_value : (p : List ℕ) → reading_of p ≡ not_read ValueInValue → Stays p ValueInValue
+  pub too_many : (p : List ℕ) → reading_of p ≡ not_read TooManyVariables → Stays p TooManyVariables
 
 -- "25 after all those": whatever is repeated, a fault further right is told instead.
 pub record GivesWay (p : List ℕ) : Type 0 where
-  pub bad_escape : reading_of (p ++ ESC ∷ 5 ∷ []) ≡ not_read 22
-  pub value_in_value : reading_of (p ++ VALUE ∷ VALUE ∷ []) ≡ not_read 23
+  pub bad_escape : reading_of (p ++ ESC ∷ 5 ∷ []) ≡ not_read BadEscape
+  pub value_in_value : reading_of (p ++ VALUE ∷ VALUE ∷ []) ≡ not_read ValueInValue
   -- a variable without a name, or the 65th
-  pub no_variable : (reading_of (p ++ VAR ∷ VALUE ∷ []) ≡ not_read 21) ⊎ (reading_of (p ++ VAR ∷ VALUE ∷ []) ≡ not_read 24)
+  pub no_variable : (reading_of (p ++ VAR ∷ VALUE ∷ []) ≡ not_read NoVariable) ⊎ (reading_of (p ++ VAR ∷ VALUE ∷ []) ≡ not_read TooManyVariables)
 
 abbrev pub RepeatGivesWay : Type 0
-RepeatGivesWay = (p : List ℕ) → length p ≤ 1022 → reading_of p ≡ not_read 25 → GivesWay p
+RepeatGivesWay = (p : List ℕ) → length p ≤ 1022 → reading_of p ≡ not_read RepeatedVariable → GivesWay p
 
 -- "An environment reader tests 3 before 20": 3 is told exactly where a payload has more than 1,024 bytes, whatever they
 -- are.
 abbrev pub TooLongFirst : Type 0
-TooLongFirst = (p : List ℕ) → (reading_of p ≡ not_read 3) ↔ (1024 < length p)
+TooLongFirst = (p : List ℕ) → (reading_of p ≡ not_read PayloadTooLong) ↔ (1024 < length p)

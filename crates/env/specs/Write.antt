@@ -3,7 +3,8 @@
 use Rattle.std.specs.Prelude.{◌≡◌, Bool, true, false, ◌||◌, ◌&&◌, List, [], ◌∷◌, ◌++◌, ℕ, T, leb, ltb, length, if◌then◌else◌}
 use Rattle.env.specs.Variable.{Value, undefined, defined, Variable, VALUE, ESC, is_first, is_kind, variable_limit, repeated}
 use Rattle.telnet.specs.Event.{payload_limit}
-use Rattle.refusal.specs.Refusal.{payload_too_long, no_variable, too_many_variables, repeated_variable}
+use Rattle.refusal.specs.declared.Refusal.{Refusal}
+use Rattle.refusal.specs.declared.Refusal.TheVariants.{PayloadTooLong, NoVariable, TooManyVariables, RepeatedVariable}
 
 -- a name or a value with its ESCs
 unfoldable pub escaped : List ℕ → List ℕ
@@ -42,17 +43,17 @@ unfoldable pub nameless : List Variable → Bool
 nameless [] = false
 nameless (v ∷ vs) = is_empty v.name || nameless vs
 
--- why the writer refuses variables, each number over the whole list before the next: 21, 24, 25, 3; or that it does not
+-- why the writer refuses variables, each refusal over the whole list before the next: 21, 24, 25, 3; or that it does not
 pub data Objection : Type 0 where
   none : Objection
-  against : ℕ → Objection
+  against : Refusal → Objection
 
 unfoldable pub objection : ℕ → List Variable → Objection
 objection first vs =
-    if nameless vs then against no_variable else
-    if ltb variable_limit (length vs) then against too_many_variables else
-    if repeated vs then against repeated_variable else
-    if ltb payload_limit (length (payload_of first vs)) then against payload_too_long else
+    if nameless vs then against NoVariable else
+    if ltb variable_limit (length vs) then against TooManyVariables else
+    if repeated vs then against RepeatedVariable else
+    if ltb payload_limit (length (payload_of first vs)) then against PayloadTooLong else
     none
 
 -- what the writer accepts

@@ -1,33 +1,19 @@
 // Environment strings: what a payload's reader answers, and what it leaves in the buffer and the list that it is lent.
 #![tactic(auto)]
 
-ghost use Rattle.std.specs.Prelude.{◌≡◌, ◌≤◌, length};
+ghost use Rattle.std.specs.Prelude.{◌≡◌};
 ghost use Rattle.env_delivery.specs.Promise.{delivery, hand_over, deliver_read};
-ghost use Rattle.octets.specs.Lent.{overwrite};
 
 use env::RECORD_WIDTH;
 use env_search::repeats;
-use octets::put;
-use refusal::{NO_ROOM, REPEATED_VARIABLE};
+use refusal::Refusal;
 
-// A payload that was read: its first byte, the number of its variables, and of the bytes that their names and values
-// take; or the number by which it is refused.
+// A payload that was read: its first byte, how many variables it has, and how many bytes their names and values take.
 #[derive(Clone, Copy)]
-pub enum Answer {
-    Read(u8, usize, usize),
-    Refused(u8),
-}
-
-// Copies the numbers to the front of the list.
-fn copy_numbers(from: &[usize], list: &mut [usize])
-    requires { length from.now ≤ length list.old }
-    ensures { list.new ≡ overwrite list.old 0 from.now }
-{
-    let mut i = 0;
-    while i < from.len() {
-        list[i] = from[i];
-        i += 1;
-    }
+pub struct Payload {
+    pub first: u8,
+    pub count: usize,
+    pub used: usize,
 }
 
 // Hands over texts and records that were read, where there is room for both. Nothing can be refused after it.
@@ -37,19 +23,23 @@ pub fn hand_over(
     records: &[usize],
     bytes: &mut [u8],
     numbers: &mut [usize],
-) -> Answer
+) -> Result<Payload, Refusal>
     ensures { delivery result bytes.new numbers.new
         ≡ hand_over first texts.now records.now bytes.old numbers.old }
 {
     if bytes.len() < texts.len() {
-        return Answer::Refused(NO_ROOM);
+        return Err(Refusal::NoRoom);
     }
     if numbers.len() < records.len() {
-        return Answer::Refused(NO_ROOM);
+        return Err(Refusal::NoRoom);
     }
-    put(texts, bytes, 0);
-    copy_numbers(records, numbers);
-    Answer::Read(first, records.len() / RECORD_WIDTH, texts.len())
+    bytes[0..texts.len()].copy_from_slice(texts);
+    numbers[0..records.len()].copy_from_slice(records);
+    Ok(Payload {
+        first,
+        count: records.len() / RECORD_WIDTH,
+        used: texts.len(),
+    })
 }
 
 // Hands over texts and records that were read, unless a variable is there twice. A check that comes before 4 has its
@@ -60,12 +50,12 @@ pub fn deliver(
     records: &[usize],
     bytes: &mut [u8],
     numbers: &mut [usize],
-) -> Answer
+) -> Result<Payload, Refusal>
     ensures { delivery result bytes.new numbers.new
         ≡ deliver_read first texts.now records.now bytes.old numbers.old }
 {
     if repeats(texts, records) {
-        return Answer::Refused(REPEATED_VARIABLE);
+        return Err(Refusal::RepeatedVariable);
     }
     hand_over(first, texts, records, bytes, numbers)
 }

@@ -1,5 +1,6 @@
 -- What is delivered as numbers, listed as records: the numbers of a delivery, set in front of a list with the same
 -- room, are what `read_records` says. Assumes nothing.
+use Rattle.std.specs.Prelude.{Result, Ok}
 use mathlib.Core.Path.{◌≡◌, refl, ap, ◌∙◌}
 use mathlib.Core.List.{List, ◌++◌, append_assoc}
 use Prim.Native.Nat.{ℕ, ◌+◌, ◌*◌, ◌≤◌, ◌<◌}
@@ -18,9 +19,9 @@ use Rattle.env.proofs.Holding.{length-recorded, recorded-before}
 use Rattle.env.proofs.Records.{length-records}
 use Rattle.env.proofs.Sound.{Reads, reads}
 use Rattle.env.specs.declared.VariableRecord.{VariableRecord}
-use Rattle.env_delivery.specs.declared.Answer.{Answer}
-use Rattle.env_delivery.specs.declared.Answer.TheVariants.{Read}
-use Rattle.env_delivery.specs.Promise.{delivery, delivered, read_into}
+use Rattle.env_delivery.specs.declared.Payload.{Payload}
+use Rattle.refusal.specs.declared.Refusal.{Refusal}
+use Rattle.env_delivery.specs.Promise.{payload_read, delivery, delivered, read_into}
 use Rattle.env_list.specs.Lists.{listing}
 use Rattle.env_list.specs.Reading.{listed}
 use Rattle.env_list.proofs.Firsts.{begun, firsts-front}
@@ -69,12 +70,12 @@ joins (says first vs) bytes nums rest list same said =
     rw (e, counted, same (length vs) few)
     (either (ltb (length list) (length vs)) (λ f. rw f (omega arith, refl)) (λ f. rw f (
       ltb-false (length list) (length vs) f,
-      ap (λ l. listing (outcome (Read first (length vs) (length (packed vs))) (overwrite bytes 0 (packed vs))) (l ++ drop (length vs) list))
+      ap (λ l. listing (outcome (Ok (payload_read first (length vs) (length (packed vs)))) (overwrite bytes 0 (packed vs))) (l ++ drop (length vs) list))
           (firsts-recorded vs nums rest),
     ))))
 
 -- a delivery into numbers with the same room as a list
-pub numbered : (payload bytes nums rest : List ℕ) (room : ℕ) (r : Answer) (left nums' : List ℕ) → SameRoom nums room
+pub numbered : (payload bytes nums rest : List ℕ) (room : ℕ) (r : Result Payload Refusal) (left nums' : List ℕ) → SameRoom nums room
     → delivery r left nums' ≡ read_into payload bytes nums → Numbered payload bytes room r left (nums' ++ rest)
 numbered payload bytes nums rest room r left nums' same e list size =
     let a : r ≡ (read_into payload bytes nums).answer = ap (λ d. d.answer) e in

@@ -1,8 +1,6 @@
 -- A lent list of variable records, as a list of structs.
-use Rattle.std.specs.Prelude.{ℕ, zero, suc, Bool, true, false, List, [], ◌∷◌, ◌++◌, ltb, length, set, if◌then◌else◌}
-use Rattle.env.specs.Numbers.{variable_record}
+use Rattle.std.specs.Prelude.{ℕ, suc, Bool, true, false, List, ltb, length, set, if◌then◌else◌}
 use Rattle.env.specs.declared.VariableRecord.{VariableRecord}
-use Rattle.env_records.specs.Records.{record_at}
 
 -- what a function answers and leaves in the list that it is lent
 pub record Listing (A : Type 0) : Type 0 where

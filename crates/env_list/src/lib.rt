@@ -2,7 +2,7 @@
 #![tactic(auto)]
 
 ghost use Rattle.std.specs.Prelude.{◌≡◌, ◌++◌, ◌≤◌, length, drop, get_or};
-ghost use Rattle.env_list.specs.Internal.Firsts.{first_records, count_of, Numbered};
+ghost use Rattle.env_list.specs.Internal.Firsts.{first_records, Numbered};
 ghost use Rattle.env_records.specs.Records.{blank};
 ghost use Rattle.env_list.specs.Lists.{listing, set_at};
 ghost use Rattle.env_list.specs.Reading.{read_records};
@@ -10,24 +10,25 @@ ghost use Rattle.env.specs.Numbers.{list_limit};
 ghost use Rattle.octets.specs.Lent.{outcome};
 
 use env::{LIST_LIMIT, RECORD_WIDTH, VARIABLE_LIMIT, VariableRecord};
-use env_delivery::Answer;
+use env_delivery::Payload;
 use env_reader::read;
 use env_records::record_at;
+use refusal::Refusal;
 
 // Record i of a list; all zeros where the list has no such record.
 pub fn get(records: &[VariableRecord], i: usize) -> VariableRecord
     ensures { result ≡ get_or records.now i blank }
 {
-    if i < records.len() {
-        return records[i];
-    }
-    VariableRecord {
-        kind: 0,
-        name_at: 0,
-        name_length: 0,
-        value_at: 0,
-        value_length: 0,
-        mark: 0,
+    match records.get(i) {
+        Some(v) => *v,
+        None => VariableRecord {
+            kind: 0,
+            name_at: 0,
+            name_length: 0,
+            value_at: 0,
+            value_length: 0,
+            mark: 0,
+        },
     }
 }
 
@@ -47,16 +48,19 @@ fn set_all(records: &mut [VariableRecord], numbers: &[usize], n: usize)
     requires { n ≤ length records.old }
     ensures { records.new ≡ first_records numbers.now n ++ drop n records.old }
 {
-    let mut k: usize = 0;
-    while k < n {
+    for k in 0..n {
         records[k] = record_at(numbers, k);
-        k += 1;
     }
 }
 
 // Reads a payload with the numbers of as many records as a list has room for; a payload has no more variables than the
 // limit.
-fn read_numbers(payload: &[u8], bytes: &mut [u8], numbers: &mut [usize], room: usize) -> Answer
+fn read_numbers(
+    payload: &[u8],
+    bytes: &mut [u8],
+    numbers: &mut [usize],
+    room: usize,
+) -> Result<Payload, Refusal>
     requires { length numbers.old ≡ list_limit }
     ensures { Numbered payload.now bytes.old room result bytes.new numbers.new }
 {
@@ -66,22 +70,16 @@ fn read_numbers(payload: &[u8], bytes: &mut [u8], numbers: &mut [usize], room: u
     read(payload, bytes, numbers)
 }
 
-// The number of variables that an answer tells of.
-fn count_of(answer: Answer) -> usize
-    ensures { result ≡ count_of answer }
-{
-    match answer {
-        Answer::Read(_, count, _) => count,
-        Answer::Refused(_) => 0,
-    }
-}
-
 // Reads a payload: names and values go into the buffer, and a record for each variable in front of the list.
-pub fn read_records(payload: &[u8], bytes: &mut [u8], records: &mut [VariableRecord]) -> Answer
+pub fn read_records(
+    payload: &[u8],
+    bytes: &mut [u8],
+    records: &mut [VariableRecord],
+) -> Result<Payload, Refusal>
     ensures { listing (outcome result bytes.new) records.new ≡ read_records payload.now bytes.old records.old }
 {
     let mut numbers = [0usize; LIST_LIMIT];
-    let answer = read_numbers(payload, bytes, &mut numbers, records.len());
-    set_all(records, &numbers, count_of(answer));
-    answer
+    let read = read_numbers(payload, bytes, &mut numbers, records.len())?;
+    set_all(records, &numbers, read.count);
+    Ok(read)
 }

@@ -8,24 +8,24 @@ ghost use Rattle.env_delivery.specs.Promise.{delivery, read_into};
 
 use env::PAYLOAD_LIMIT;
 use env_codes::is_first;
-use env_delivery::Answer;
+use env_delivery::Payload;
 use env_variables::read_variables;
-use refusal::{NOT_IS_OR_INFO, PAYLOAD_TOO_LONG};
+use refusal::Refusal;
 
 // Reads a payload. Names and values without their ESCs go back to back into the buffer, and their records into the
 // list.
-pub fn read(payload: &[u8], bytes: &mut [u8], numbers: &mut [usize]) -> Answer
+pub fn read(payload: &[u8], bytes: &mut [u8], numbers: &mut [usize]) -> Result<Payload, Refusal>
     ensures { delivery result bytes.new numbers.new ≡ read_into payload.now bytes.old numbers.old }
 {
     if payload.len() > PAYLOAD_LIMIT {
-        return Answer::Refused(PAYLOAD_TOO_LONG);
+        return Err(Refusal::PayloadTooLong);
     }
     if payload.len() == 0 {
-        return Answer::Refused(NOT_IS_OR_INFO);
+        return Err(Refusal::NotIsOrInfo);
     }
     let first = payload[0];
     if !is_first(first) {
-        return Answer::Refused(NOT_IS_OR_INFO);
+        return Err(Refusal::NotIsOrInfo);
     }
     read_variables(first, &payload[1..], bytes, numbers)
 }

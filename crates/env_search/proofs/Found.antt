@@ -1,14 +1,13 @@
 -- What a look-up finds is the value of the first variable of that kind and name that is defined, and it finds nothing
 -- exactly where there is none. Assumes nothing.
-use Rattle.std.specs.Prelude.{if◌then◌else◌}
+use Rattle.std.specs.Prelude.{if◌then◌else◌, Option, None, Some}
 use mathlib.Core.Path.{◌≡◌, refl, sym, ap, ◌∙◌}
 use mathlib.Core.Bool.{Bool, true, false, ◌||◌, ◌&&◌}
 use mathlib.Core.List.{List, [], ◌∷◌, map}
 use Prim.Native.Nat.{ℕ}
 use lib.Dec.{eqb}
 use Rattle.env_search.specs.declared.ValuePlace.{ValuePlace}
-use Rattle.env_search.specs.declared.ValuePlace.TheVariants.{Absent, At}
-use Rattle.env_search.specs.Places.{is_defined_of, place_in, place_of}
+use Rattle.env_search.specs.Places.{is_defined_of, value_place, place_in, place_of}
 use Rattle.env_search.specs.Theorems.{value_at, FindsTheValue, AbsentWhereNone}
 use Rattle.env.specs.Variable.{undefined, defined, Variable, is_defined, defined_ones, is, among, Lookup, or_further, lookup, value_or}
 use Rattle.env.specs.declared.VariableRecord.{VariableRecord}
@@ -16,8 +15,8 @@ use Rattle.env.specs.Numbers.{records_of, DEFINED, value_by, variable_of, variab
 use Rattle.octets.specs.Part.{part}
 
 -- what a record gives a look-up: its value where it is defined, of that kind and name; else what is found further on
-value_of : (bytes : List ℕ) (a n : ℕ) (marked test : Bool) (after : ValuePlace) (rest : Lookup) → value_at bytes after ≡ rest
-    → value_at bytes (if marked && test then At a n else after)
+value_of : (bytes : List ℕ) (a n : ℕ) (marked test : Bool) (after : Option ValuePlace) (rest : Lookup) → value_at bytes after ≡ rest
+    → value_at bytes (if marked && test then Some (value_place a n) else after)
     ≡ (if test then or_further (if marked then defined (part bytes a n) else undefined) rest else rest)
 unfolding value_at or_further
 value_of bytes a n true true after rest e = refl
@@ -38,18 +37,18 @@ unfolding place_of variables_held
 finds-the-value kind name bytes numbers = finds-in kind name bytes (records_of numbers)
 
 -- whether a value has a place
-unfoldable there : ValuePlace → Bool
-there Absent = false
-there (At a n) = true
+unfoldable there : Option ValuePlace → Bool
+there None = false
+there (Some p) = true
 
-there-or : (a n : ℕ) (test : Bool) (after : ValuePlace) (rest : Bool) → there after ≡ rest → there (if test then At a n else after) ≡ (test || rest)
+there-or : (a n : ℕ) (test : Bool) (after : Option ValuePlace) (rest : Bool) → there after ≡ rest → there (if test then Some (value_place a n) else after) ≡ (test || rest)
 unfolding there
 there-or a n true after rest e = refl
 there-or a n false after rest e = e
 
-there-of : (kind : ℕ) (name : List ℕ) (a n : ℕ) (marked : Bool) (v : Variable) (value : List ℕ) (vs : List Variable) (after : ValuePlace)
+there-of : (kind : ℕ) (name : List ℕ) (a n : ℕ) (marked : Bool) (v : Variable) (value : List ℕ) (vs : List Variable) (after : Option ValuePlace)
     → there after ≡ among kind name vs
-    → there (if marked && is kind name v then At a n else after)
+    → there (if marked && is kind name v then Some (value_place a n) else after)
     ≡ among kind name (if is_defined (if marked then defined value else undefined) then v ∷ vs else vs)
 unfolding among is_defined
 there-of kind name a n true v value vs after e = there-or a n (is kind name v) after (among kind name vs) e
@@ -68,10 +67,10 @@ there-among : (kind : ℕ) (name bytes numbers : List ℕ)
 unfolding place_of variables_held
 there-among kind name bytes numbers = there-in kind name bytes (records_of numbers)
 
-nowhere : (p : ValuePlace) → there p ≡ false → p ≡ Absent
+nowhere : (p : Option ValuePlace) → there p ≡ false → p ≡ None
 unfolding there
-nowhere Absent h = refl
-nowhere (At a n) h = cc
+nowhere None h = refl
+nowhere (Some p) h = cc
 
 pub absent-where-none : AbsentWhereNone
 unfolding there
@@ -80,7 +79,7 @@ absent-where-none kind name bytes numbers =
     ((λ h. sym e ∙ ap there h), (λ h. nowhere (place_of kind name bytes numbers) (e ∙ h)))
 
 -- the value at the place that a look-up finds, empty where it finds none
-pub value_found : (kind : ℕ) (name bytes numbers : List ℕ) (p q : ValuePlace) → p ≡ place_of kind name bytes numbers → p ≡ q
+pub value_found : (kind : ℕ) (name bytes numbers : List ℕ) (p q : Option ValuePlace) → p ≡ place_of kind name bytes numbers → p ≡ q
     → value_or [] (value_at bytes q) ≡ value_or [] (lookup kind name (variables_held bytes numbers))
 value_found kind name bytes numbers p q e told =
     ap (value_or []) (ap (value_at bytes) (sym told ∙ e) ∙ finds-the-value kind name bytes numbers)

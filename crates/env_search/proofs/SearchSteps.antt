@@ -1,12 +1,11 @@
 -- Searching a list of records: what record i and the records after it give those from i on. Assumes nothing.
-use Rattle.std.specs.Prelude.{if◌then◌else◌}
+use Rattle.std.specs.Prelude.{if◌then◌else◌, None, Some}
 use mathlib.Core.Path.{◌≡◌, sym, ap, ◌∙◌}
 use mathlib.Core.Bool.{Bool, false, ◌||◌}
 use mathlib.Core.List.{List}
 use Prim.Native.Nat.{ℕ, ◌+◌, ◌*◌, ◌/◌, ◌≤◌, ◌<◌}
 use lib.ListN.{length, drop}
-use Rattle.env_search.specs.declared.ValuePlace.TheVariants.{Absent, At}
-use Rattle.env_search.specs.Places.{is_defined_of, place_in, place_of}
+use Rattle.env_search.specs.Places.{is_defined_of, value_place, place_in, place_of}
 use Rattle.env_records.specs.Records.{record_at}
 use Rattle.env_records.proofs.Steps.{none_left, record-step, held-step, held-end}
 use Rattle.env.specs.declared.VariableRecord.{VariableRecord}
@@ -37,11 +36,11 @@ repeated-end bytes l i h = ap repeated (held-end bytes l i h)
 pub place-step : (kind : ℕ) (name bytes l : List ℕ) (i : ℕ) → i < length l / record_width
     → let r = record_at l i in
     place_of kind name bytes (drop (record_width * i) l)
-    ≡ (if is_defined_of kind name bytes r then At r.value_at r.value_length else place_of kind name bytes (drop (record_width * (i + 1)) l))
+    ≡ (if is_defined_of kind name bytes r then Some (value_place r.value_at r.value_length) else place_of kind name bytes (drop (record_width * (i + 1)) l))
 unfolding place_of place_in
 place-step kind name bytes l i h = ap (place_in kind name bytes) (record-step l i h)
 
-pub place_end : (kind : ℕ) (name bytes l : List ℕ) (i : ℕ) → length l / record_width ≤ i → place_of kind name bytes (drop (record_width * i) l) ≡ Absent
+pub place_end : (kind : ℕ) (name bytes l : List ℕ) (i : ℕ) → length l / record_width ≤ i → place_of kind name bytes (drop (record_width * i) l) ≡ None
 unfolding place_of place_in
 place_end kind name bytes l i h = ap (place_in kind name bytes) (none_left l i h)
 

@@ -1,16 +1,15 @@
 -- What is proved of a look-up. The proofs are in `proofs/Found.antt`.
-use Rattle.std.specs.Prelude.{◌≡◌, false, List, ◌↔◌, ℕ}
+use Rattle.std.specs.Prelude.{◌≡◌, false, List, ◌↔◌, ℕ, Option, None, Some}
 use Rattle.env_search.specs.declared.ValuePlace.{ValuePlace}
-use Rattle.env_search.specs.declared.ValuePlace.TheVariants.{Absent, At}
 use Rattle.env_search.specs.Places.{place_of}
 use Rattle.env.specs.Variable.{defined_ones, Lookup, absent, present, among, lookup}
 use Rattle.env.specs.Numbers.{variables_held}
 use Rattle.octets.specs.Part.{part}
 
 -- the value at a place of a buffer
-unfoldable pub value_at : List ℕ → ValuePlace → Lookup
-value_at bytes Absent = absent
-value_at bytes (At a n) = present (part bytes a n)
+unfoldable pub value_at : List ℕ → Option ValuePlace → Lookup
+value_at bytes None = absent
+value_at bytes (Some p) = present (part bytes p.at p.length)
 
 -- What a look-up finds is the value of the first variable of that kind and name that is defined.
 abbrev pub FindsTheValue : Type 0
@@ -21,4 +20,4 @@ FindsTheValue =
 abbrev pub AbsentWhereNone : Type 0
 AbsentWhereNone =
     (kind : ℕ) (name bytes numbers : List ℕ)
-    → (place_of kind name bytes numbers ≡ Absent) ↔ (among kind name (defined_ones (variables_held bytes numbers)) ≡ false)
+    → (place_of kind name bytes numbers ≡ None) ↔ (among kind name (defined_ones (variables_held bytes numbers)) ≡ false)

@@ -12,44 +12,41 @@ use env_records::record_at;
 
 // The place of a value in a buffer, and its length.
 #[derive(Clone, Copy)]
-pub enum ValuePlace {
-    Absent,
-    At(usize, usize),
+pub struct ValuePlace {
+    pub at: usize,
+    pub length: usize,
 }
 
 // Whether a record is of a kind and name.
+#[tactic(auto, unfolding(env::specs::Variable::is))]
 fn is_of(bytes: &[u8], v: VariableRecord, kind: usize, name: &[u8]) -> bool
     ensures { result ≡ is kind name.now (variable_of bytes.now v) }
 {
-    if kind != v.kind {
-        return false;
-    }
-    octets::same(name, octets_part::part(bytes, v.name_at, v.name_length))
+    kind == v.kind && octets::same(name, octets_part::part(bytes, v.name_at, v.name_length))
 }
 
 // Whether a record is of a kind and name, and defined.
+#[tactic(auto, unfolding(crate::specs::Places::is_defined_of))]
 fn is_defined_of(bytes: &[u8], v: VariableRecord, kind: usize, name: &[u8]) -> bool
     ensures { result ≡ is_defined_of kind name.now bytes.now v }
 {
-    if v.mark != DEFINED {
-        return false;
-    }
-    is_of(bytes, v, kind, name)
+    v.mark == DEFINED && is_of(bytes, v, kind, name)
 }
 
 // The place of the value of the first record of a kind and name that is defined.
-pub fn find(bytes: &[u8], numbers: &[usize], kind: usize, name: &[u8]) -> ValuePlace
+pub fn find(bytes: &[u8], numbers: &[usize], kind: usize, name: &[u8]) -> Option<ValuePlace>
     ensures { result ≡ place_of kind name.now bytes.now numbers.now }
 {
-    let mut i = 0;
-    while i < numbers.len() / RECORD_WIDTH {
+    for i in 0..numbers.len() / RECORD_WIDTH {
         let v = record_at(numbers, i);
         if is_defined_of(bytes, v, kind, name) {
-            return ValuePlace::At(v.value_at, v.value_length);
+            return Some(ValuePlace {
+                at: v.value_at,
+                length: v.value_length,
+            });
         }
-        i += 1;
     }
-    ValuePlace::Absent
+    None
 }
 
 // The value of the first record of a kind and name that is defined; empty where there is none, which `find` tells apart
@@ -58,8 +55,8 @@ pub fn value_of<'a>(bytes: &'a [u8], numbers: &[usize], kind: usize, name: &[u8]
     ensures { result.now ≡ value_or [] (lookup kind name.now (variables_held bytes.now numbers.now)) }
 {
     match find(bytes, numbers, kind, name) {
-        ValuePlace::Absent => octets_part::part(bytes, 0, 0),
-        ValuePlace::At(at, n) => octets_part::part(bytes, at, n),
+        None => octets_part::part(bytes, 0, 0),
+        Some(place) => octets_part::part(bytes, place.at, place.length),
     }
 }
 
@@ -67,12 +64,10 @@ pub fn value_of<'a>(bytes: &'a [u8], numbers: &[usize], kind: usize, name: &[u8]
 fn occurs(bytes: &[u8], numbers: &[usize], from: usize, kind: usize, name: &[u8]) -> bool
     ensures { result ≡ among kind name.now (variables_held bytes.now (drop (record_width * from) numbers.now)) }
 {
-    let mut i = from;
-    while i < numbers.len() / RECORD_WIDTH {
+    for i in from..numbers.len() / RECORD_WIDTH {
         if is_of(bytes, record_at(numbers, i), kind, name) {
             return true;
         }
-        i += 1;
     }
     false
 }
@@ -92,12 +87,10 @@ fn occurs_after(bytes: &[u8], numbers: &[usize], i: usize) -> bool
 pub fn repeats(bytes: &[u8], numbers: &[usize]) -> bool
     ensures { result ≡ repeated (variables_held bytes.now numbers.now) }
 {
-    let mut i = 0;
-    while i < numbers.len() / RECORD_WIDTH {
+    for i in 0..numbers.len() / RECORD_WIDTH {
         if occurs_after(bytes, numbers, i) {
             return true;
         }
-        i += 1;
     }
     false
 }

@@ -104,15 +104,13 @@ pub fn copy_text(s: &[u8], from: usize, count: usize, out: &mut [u8], at: usize)
         return false;
     }
     let mut i = from;
-    let mut k = 0;
-    while k < count {
+    for k in 0..count {
         let w = width_at(s, i);
         if w == 0 {
             return true;
         }
         out[at + k] = s[i + w - 1];
         i += w;
-        k += 1;
     }
     true
 }

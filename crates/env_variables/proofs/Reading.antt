@@ -1,17 +1,16 @@
 -- What the name reader's answer says of what was found, and what is delivered then.
 -- Assumes nothing.
+use Rattle.std.specs.Prelude.{Ok, Err}
 use mathlib.Core.Path.{◌≡◌, refl, sym, ap, ◌∙◌}
-use mathlib.Core.Bool.{true, false}
-use mathlib.Core.List.{List, [], ◌∷◌}
-use Prim.Native.Nat.{ℕ, ◌+◌, ◌-◌, ◌*◌, ◌≤◌, ◌<◌}
+use mathlib.Core.List.{List, ◌∷◌}
+use Prim.Native.Nat.{ℕ, ◌+◌, ◌*◌, ◌≤◌, ◌<◌}
 use native.Mathlib.Omega.{arith}
 use borrow.Author.Tests.{lt-ltb, le-ltb}
 use lib.ListN.{length, take, length-take}
 use Rattle.telnet.specs.Event.{payload_limit}
-use Rattle.env_variables.specs.declared.Found.{Found as Answered}
-use Rattle.env_variables.specs.declared.Found.TheVariants.{Variables, Fault}
-use Rattle.env_variables.specs.Internal.Found.{Buffers, NameRead}
-use Rattle.env_delivery.specs.declared.Answer.TheVariants.{Refused}
+use Rattle.env_variables.specs.declared.Held.{Held}
+use Rattle.refusal.specs.declared.Refusal.{Refusal}
+use Rattle.env_variables.specs.Internal.Found.{Buffers, held, NameRead}
 use Rattle.env_delivery.specs.Promise.{delivery, delivered, deliver_read, read_after}
 use Rattle.env_delivery.proofs.Handing.{handed-these}
 use Rattle.env.specs.Variable.{Variable, variable_limit}
@@ -19,14 +18,14 @@ use Rattle.env.specs.Fields.{row_of}
 use Rattle.env.specs.Read.{Found, variables, fault, distinct, variables_of}
 use Rattle.env.specs.Numbers.{record_width, packed, recorded}
 use Rattle.env.proofs.Holding.{length-recorded}
-use Rattle.refusal.specs.Refusal.{payload_too_long}
+use Rattle.refusal.specs.declared.Refusal.TheVariants.{PayloadTooLong}
 use Rattle.octets.proofs.Overwrite.{take-overwrite-front}
 
 -- the fault that was found
-pub name-fault : (found : Found) (n at k : ℕ) (before : Buffers) (r : Answered) (after : Buffers) → NameRead found at k before r after → r ≡ Fault n → found ≡ fault n
+pub name-fault : (found : Found) (n : Refusal) (at k : ℕ) (before after : Buffers) → NameRead found at k before (Err n) after → found ≡ fault n
 unfolding NameRead
-name-fault (fault m) n at k before r after is e = cc
-name-fault (variables vs) n at k before r after is e = let a = is.answer in cc
+name-fault (fault m) n at k before after is = cc
+name-fault (variables vs) n at k before after is = let a = is.answer in cc
 
 -- all of the variables from the front on, in a buffer and a list of the reader's own
 pub record AllRead (found : Found) (bytes numbers : List ℕ) (count used : ℕ) : Type 0 where
@@ -35,14 +34,17 @@ pub record AllRead (found : Found) (bytes numbers : List ℕ) (count used : ℕ)
   pub texts : take used bytes ≡ packed all
   pub records : take (record_width * count) numbers ≡ recorded 0 all
 
-pub name-variables : (found : Found) (count used : ℕ) (before : Buffers) (r : Answered) (after : Buffers) → NameRead found 0 0 before r after → r ≡ Variables count used
-    → (count ≤ variable_limit) × (used ≤ length after.bytes) × (record_width * count ≤ length after.numbers) × AllRead found after.bytes after.numbers count used
+pub name-variables : (found : Found) (h : Held) (before after : Buffers) → NameRead found 0 0 before (Ok h) after
+    → (h.count ≤ variable_limit) × (h.used ≤ length after.bytes) × (record_width * h.count ≤ length after.numbers) × AllRead found after.bytes after.numbers h.count h.used
 unfolding NameRead
-name-variables (fault m) count used before r after is e = let z : ◌≡◌ {A = ℕ} 0 1 = cc in absurd (omega arith)
-name-variables (variables vs) count used before r after is e =
+name-variables (fault m) h before after is = let z : ◌≡◌ {A = ℕ} 0 1 = cc in absurd (omega arith)
+name-variables (variables vs) h before after is =
     let a = is.answer in
-    let n : count ≡ 0 + length vs = cc in
-    let m : used ≡ 0 + length (packed vs) = cc in
+    let is-held : h ≡ held (0 + length vs) (0 + length (packed vs)) = cc in
+    let count = h.count in
+    let used = h.used in
+    let n : count ≡ 0 + length vs = ap (λ (r : Held). r.count) is-held in
+    let m : used ≡ 0 + length (packed vs) = ap (λ (r : Held). r.used) is-held in
     let all : used ≡ length (packed vs) = omega (arith, m) in
     let counted : record_width * count ≡ length (recorded 0 vs) = omega (arith, n, length-recorded 0 vs) in
     let read : AllRead (variables vs) after.bytes after.numbers count used = record {
@@ -59,7 +61,7 @@ name-variables (variables vs) count used before r after is e =
 
 -- what the reader delivers, by what comes after the first byte
 module _ (first : ℕ) (rest bytes numbers : List ℕ) where
-  pub long_after : payload_limit ≤ length rest → delivery (Refused payload_too_long) bytes numbers ≡ read_after first rest bytes numbers
+  pub long_after : payload_limit ≤ length rest → delivery (Err PayloadTooLong) bytes numbers ≡ read_after first rest bytes numbers
   unfolding read_after
   long_after h = rw (lt-ltb payload_limit (length (first ∷ rest)) (omega arith))
 
@@ -67,8 +69,8 @@ module _ (first : ℕ) (rest bytes numbers : List ℕ) where
   unfolding read_after
   short-after h = rw (le-ltb payload_limit (length (first ∷ rest)) (omega arith))
 
-  pub fault-after : (n : ℕ) → length rest < payload_limit → variables_of (row_of rest) ≡ fault n
-      → delivery (Refused n) bytes numbers ≡ read_after first rest bytes numbers
+  pub fault-after : (n : Refusal) → length rest < payload_limit → variables_of (row_of rest) ≡ fault n
+      → delivery (Err n) bytes numbers ≡ read_after first rest bytes numbers
   unfolding distinct delivered
   fault-after n h e = ap (λ f. delivered (distinct first f) bytes numbers) (sym e) ∙ short-after h
 

@@ -1,5 +1,5 @@
 -- Laws of a VALUE at the front of bytes, and of a text that was found and put into the buffer. Assumes nothing.
-use mathlib.Core.Path.{◌≡◌, refl, sym, ap, ◌∙◌}
+use mathlib.Core.Path.{◌≡◌, refl, sym, ◌∙◌}
 use mathlib.Core.Bool.{Bool, true, false}
 use mathlib.Core.List.{List, [], ◌∷◌}
 use Prim.Native.Nat.{ℕ, ◌+◌, ◌≤◌, ◌<◌}
@@ -8,7 +8,7 @@ use lib.Dec.{eqb}
 use lib.ListN.{length, get_or, drop}
 use Rattle.env_variables.specs.Internal.Texts.{gives_value, IsTaken}
 use Rattle.env_text.specs.declared.Text.{Text}
-use Rattle.env_text.specs.Text.{text_of, ends_text, text_at, copy_text}
+use Rattle.env_text.specs.Text.{text_of, text_at, copy_text}
 use Rattle.env_text.proofs.Copying.{copy-left}
 use Rattle.env_text.proofs.Standing.{Scanned, whole-text, bad-text, scanned, Placed, placed}
 use Rattle.octets.specs.Lent.{outcome, overwrite}

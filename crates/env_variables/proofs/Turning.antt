@@ -1,18 +1,19 @@
 -- The laws of the turns of name reader and value reader: what the fields say of the variables, and how what is stored
 -- after a name or a value becomes what is stored from it on. Assumes nothing.
+use Rattle.std.specs.Prelude.{Result, Ok, Err}
 use mathlib.Core.Path.{◌≡◌, refl, sym, ap, ◌∙◌}
-use mathlib.Core.Bool.{Bool, true, false}
+use mathlib.Core.Bool.{true, false}
 use mathlib.Core.List.{List, [], ◌∷◌, ◌++◌}
-use Prim.Native.Nat.{ℕ, zero, suc, ◌+◌, ◌-◌, ◌*◌, ◌≤◌, ◌<◌}
+use Prim.Native.Nat.{ℕ, zero, suc, ◌+◌, ◌*◌, ◌≤◌, ◌<◌}
 use native.Mathlib.Nat.{add-zero}
 use native.Mathlib.Numerals.{add-one}
 use native.Mathlib.Omega.{arith}
 use borrow.Author.Tests.{eqb-true, lt-ltb, le-ltb}
 use lib.Dec.{leb}
 use lib.ListN.{length, get_or, drop, length-append}
-use Rattle.env_variables.specs.declared.Found.{Found as Answered}
-use Rattle.env_variables.specs.declared.Found.TheVariants.{Variables, Fault}
-use Rattle.env_variables.specs.Internal.Found.{Buffers, buffers, NameRead}
+use Rattle.env_variables.specs.declared.Held.{Held}
+use Rattle.refusal.specs.declared.Refusal.{Refusal}
+use Rattle.env_variables.specs.Internal.Found.{Buffers, held, buffers, NameRead}
 use Rattle.env_variables.specs.Internal.Texts.{gives_value, mark_at, IsTaken}
 use Rattle.env_variables.specs.Internal.Turns.{from_name, Valued, valued, bad_value, followed, from_value, completed}
 use Rattle.env_variables.specs.Internal.Turns.{IsValue, ValueRead}
@@ -23,7 +24,7 @@ use Rattle.env.specs.Variable.{Value, undefined, defined, variable, variable_lim
 use Rattle.env.specs.Fields.{Text, text, broken, Field, name_field, value_field, row, row_of, joins, stands, escapes, starts_name, starts_value}
 use Rattle.env.specs.Read.{Found, variables, fault, add_variable, limited, whole, named, names, expect_no_text}
 use Rattle.env.specs.Numbers.{list_limit, record_width, variable_record, numbers_of, mark_of, bytes_of, packed, recorded}
-use Rattle.refusal.specs.Refusal.{no_variable, bad_escape, value_in_value, too_many_variables}
+use Rattle.refusal.specs.declared.Refusal.TheVariants.{NoVariable, BadEscape, ValueInValue, TooManyVariables}
 use Rattle.env.proofs.Rows.{row-kind}
 use Rattle.env.proofs.Holding.{length-recorded}
 use Rattle.octets.specs.Lent.{overwrite}
@@ -36,35 +37,35 @@ unfolding add_variable completed followed
 before-completed kind name v (variables vs) = refl
 before-completed kind name v (fault n) = refl
 
-module _ (number k kind : ℕ) where
-  pub names-full : (t : Text) (fs : List Field) → variable_limit ≤ k → names number k (name_field kind t ∷ fs) ≡ fault too_many_variables
+module _ (wrong : Refusal) (k kind : ℕ) where
+  pub names-full : (t : Text) (fs : List Field) → variable_limit ≤ k → names wrong k (name_field kind t ∷ fs) ≡ fault TooManyVariables
   unfolding names limited
   names-full t [] h = rw (le-ltb k variable_limit h)
   names-full t (name_field kind₂ u ∷ fs) h = rw (le-ltb k variable_limit h)
   names-full t (value_field u ∷ fs) h = rw (le-ltb k variable_limit h)
 
-  pub names-broken : (fs : List Field) → k < variable_limit → names number k (name_field kind broken ∷ fs) ≡ fault bad_escape
+  pub names-broken : (fs : List Field) → k < variable_limit → names wrong k (name_field kind broken ∷ fs) ≡ fault BadEscape
   unfolding names limited whole
   names-broken [] h = rw (lt-ltb k variable_limit h)
   names-broken (name_field kind₂ u ∷ fs) h = rw (lt-ltb k variable_limit h)
   names-broken (value_field u ∷ fs) h = rw (lt-ltb k variable_limit h)
 
-  pub names-empty : (fs : List Field) → k < variable_limit → names number k (name_field kind (text []) ∷ fs) ≡ fault no_variable
+  pub names-empty : (fs : List Field) → k < variable_limit → names wrong k (name_field kind (text []) ∷ fs) ≡ fault NoVariable
   unfolding names limited whole named
   names-empty [] h = rw (lt-ltb k variable_limit h)
   names-empty (name_field kind₂ u ∷ fs) h = rw (lt-ltb k variable_limit h)
   names-empty (value_field u ∷ fs) h = rw (lt-ltb k variable_limit h)
 
   pub names-turn : (b : ℕ) (bs : List ℕ) (fs : List Field) → k < variable_limit
-      → names number k (name_field kind (text (b ∷ bs)) ∷ fs) ≡ completed kind (b ∷ bs) (from_value k fs)
+      → names wrong k (name_field kind (text (b ∷ bs)) ∷ fs) ≡ completed kind (b ∷ bs) (from_value k fs)
   unfolding names limited whole named from_value completed
   names-turn b bs [] h = rw (lt-ltb k variable_limit h) (before-completed kind (b ∷ bs) undefined (variables []))
-  names-turn b bs (name_field kind₂ u ∷ fs) h = rw (lt-ltb k variable_limit h) (before-completed kind (b ∷ bs) undefined (names no_variable (suc k) (name_field kind₂ u ∷ fs)))
+  names-turn b bs (name_field kind₂ u ∷ fs) h = rw (lt-ltb k variable_limit h) (before-completed kind (b ∷ bs) undefined (names NoVariable (suc k) (name_field kind₂ u ∷ fs)))
   names-turn b bs (value_field broken ∷ fs) h = rw (lt-ltb k variable_limit h)
-  names-turn b bs (value_field (text v) ∷ fs) h = rw (lt-ltb k variable_limit h) (before-completed kind (b ∷ bs) (defined v) (names value_in_value (suc k) fs))
+  names-turn b bs (value_field (text v) ∷ fs) h = rw (lt-ltb k variable_limit h) (before-completed kind (b ∷ bs) (defined v) (names ValueInValue (suc k) fs))
 
 -- what is stored from a value on, with the name before it
-pub with-name : (kind : ℕ) (name : List ℕ) (found : Valued) (at k : ℕ) (bytes₀ numbers₀ : List ℕ) (r : Answered) (bytes numbers : List ℕ)
+pub with-name : (kind : ℕ) (name : List ℕ) (found : Valued) (at k : ℕ) (bytes₀ numbers₀ : List ℕ) (r : Result Held Refusal) (bytes numbers : List ℕ)
     → ValueRead found kind at (length name) k (buffers (overwrite bytes₀ at name) numbers₀) r (buffers bytes numbers) → at + length name ≤ length bytes₀
     → NameRead (completed kind name found) at k (buffers bytes₀ numbers₀) r (buffers bytes numbers)
 unfolding ValueRead NameRead completed packed recorded
@@ -75,7 +76,7 @@ with-name kind name (valued v vs) at k bytes₀ numbers₀ r bytes numbers is h 
     let room : at + (length name + length more) ≤ length bytes₀ = omega (arith, is.within, l) in
     let used : at + length name + length more ≡ at + length (name ++ more) = omega (arith, length-append name more) in
     record {
-      answer = is.answer ∙ ap (Variables (k + suc (length vs))) used;
+      answer = is.answer ∙ ap (λ u. Ok (held (k + suc (length vs)) u)) used;
       limit = is.limit;
       within = rw length-append room;
       texts = is.texts ∙ overwrite-append bytes₀ at name more room;
@@ -83,7 +84,7 @@ with-name kind name (valued v vs) at k bytes₀ numbers₀ r bytes numbers is h 
     }
 
 -- what is stored from the next name on, with the value before it
-pub with_value : (kind : ℕ) (v : Value) (found : Found) (at n k : ℕ) (bytes₀ numbers₀ : List ℕ) (r : Answered) (bytes numbers : List ℕ)
+pub with_value : (kind : ℕ) (v : Value) (found : Found) (at n k : ℕ) (bytes₀ numbers₀ : List ℕ) (r : Result Held Refusal) (bytes numbers : List ℕ)
     → let x = bytes_of v in
     NameRead found (at + n + length x) (k + 1)
     (buffers (overwrite bytes₀ (at + n) x) (overwrite numbers₀ (record_width * k) (numbers_of (variable_record kind at n (at + n) (length x) (mark_of v)))))
@@ -111,47 +112,47 @@ with_value kind v (variables vs) at n k bytes₀ numbers₀ r bytes numbers is h
     }
 
 -- by the first byte of the rest
-no_text : (b : ℕ) (t : Text) (found : Found) → expect_no_text (joins b t) found ≡ fault no_variable
+no_text : (b : ℕ) (t : Text) (found : Found) → expect_no_text (joins b t) found ≡ fault NoVariable
 unfolding expect_no_text joins
 no_text b (text bs) found = refl
 no_text b broken found = refl
 
-module _ (number k : ℕ) where
-  pub from-nil : (l : List ℕ) → length l ≡ 0 → from_name number k (row_of l) ≡ variables []
+module _ (wrong : Refusal) (k : ℕ) where
+  pub from-nil : (l : List ℕ) → length l ≡ 0 → from_name wrong k (row_of l) ≡ variables []
   unfolding row_of expect_no_text names
   from-nil [] h = refl
   from-nil (b ∷ bs) h = absurd (omega arith)
 
-  pub from-value : (l : List ℕ) → 0 < length l → get_or l 0 0 ≡ 1 → from_name number k (row_of l) ≡ fault number
+  pub from-value : (l : List ℕ) → 0 < length l → get_or l 0 0 ≡ 1 → from_name wrong k (row_of l) ≡ fault wrong
   unfolding row_of starts_value expect_no_text names
   from-value [] h e = absurd (omega arith)
   from-value (b ∷ bs) h e = rw e
 
-  pub from-other : (l : List ℕ) → 0 < length l → (get_or l 0 0 ≡ 1 → ⊥) → is_kind (get_or l 0 0) ≡ false → from_name number k (row_of l) ≡ fault no_variable
+  pub from-other : (l : List ℕ) → 0 < length l → (get_or l 0 0 ≡ 1 → ⊥) → is_kind (get_or l 0 0) ≡ false → from_name wrong k (row_of l) ≡ fault NoVariable
   unfolding row_of stands escapes expect_no_text is_kind
   from-other [] h n e = absurd (omega arith)
   from-other (zero ∷ bs) h n e = cc
   from-other (suc zero ∷ bs) h n e = absurd (n refl)
   from-other (suc (suc zero) ∷ []) h n e = refl
   from-other (suc (suc zero) ∷ b ∷ bs) h n e =
-      choice (λ r. from_name number k r ≡ fault no_variable) (leb b 3)
-      (λ t. no_text b (row_of bs).front (names number k (row_of bs).fields))
+      choice (λ r. from_name wrong k r ≡ fault NoVariable) (leb b 3)
+      (λ t. no_text b (row_of bs).front (names wrong k (row_of bs).fields))
       (λ t. refl)
   from-other (suc (suc (suc zero)) ∷ bs) h n e = cc
-  from-other (suc (suc (suc (suc b))) ∷ bs) h n e = no_text (suc (suc (suc (suc b)))) (row_of bs).front (names number k (row_of bs).fields)
+  from-other (suc (suc (suc (suc b))) ∷ bs) h n e = no_text (suc (suc (suc (suc b)))) (row_of bs).front (names wrong k (row_of bs).fields)
 
   pub from-kind : (l : List ℕ) → 0 < length l → is_kind (get_or l 0 0) ≡ true
-      → from_name number k (row_of l) ≡ names number k (name_field (get_or l 0 0) (row_of (drop 1 l)).front ∷ (row_of (drop 1 l)).fields)
+      → from_name wrong k (row_of l) ≡ names wrong k (name_field (get_or l 0 0) (row_of (drop 1 l)).front ∷ (row_of (drop 1 l)).fields)
   unfolding starts_name expect_no_text
   from-kind [] h e = absurd (omega arith)
   from-kind (b ∷ bs) h e = rw (row-kind b bs (rw e tt))
 
-pub name-fault : (found : Found) (n at k : ℕ) (before after : Buffers) → found ≡ fault n → NameRead found at k before (Fault n) after
+pub name-fault : (found : Found) (n : Refusal) (at k : ℕ) (before after : Buffers) → found ≡ fault n → NameRead found at k before (Err n) after
 unfolding NameRead
 name-fault found n at k before after e = rw e
 
 pub name-none : (found : Found) (at k : ℕ) (b : Buffers)
-    → found ≡ variables [] → k ≤ variable_limit → at ≤ length b.bytes → NameRead found at k b (Variables k at) b
+    → found ≡ variables [] → k ≤ variable_limit → at ≤ length b.bytes → NameRead found at k b (Ok (held k at)) b
 unfolding NameRead packed recorded
 name-none found at k b e h g = rw e (record {
   answer = simp add-zero;
@@ -161,47 +162,47 @@ name-none found at k b e h g = rw e (record {
   records = sym (overwrite-nil b.numbers (record_width * k));
 })
 
-names-turn-of : (number k kind : ℕ) (name : List ℕ) (fs : List Field) → k < variable_limit → 0 < length name
-    → names number k (name_field kind (text name) ∷ fs) ≡ completed kind name (from_value k fs)
-names-turn-of number k kind [] fs h n = absurd (omega arith)
-names-turn-of number k kind (b ∷ bs) fs h n = names-turn number k kind b bs fs h
+names-turn-of : (wrong : Refusal) (k kind : ℕ) (name : List ℕ) (fs : List Field) → k < variable_limit → 0 < length name
+    → names wrong k (name_field kind (text name) ∷ fs) ≡ completed kind name (from_value k fs)
+names-turn-of wrong k kind [] fs h n = absurd (omega arith)
+names-turn-of wrong k kind (b ∷ bs) fs h n = names-turn wrong k kind b bs fs h
 
 -- a name gives way to its value
-pub name-turn : (number at k : ℕ) (l bytes₀ bytes₁ numbers₀ : List ℕ) (t : Taken) (r : Answered) (bytes numbers : List ℕ)
+pub name-turn : (wrong : Refusal) (at k : ℕ) (l bytes₀ bytes₁ numbers₀ : List ℕ) (t : Taken) (r : Result Held Refusal) (bytes numbers : List ℕ)
     → IsTaken l bytes₀ at t bytes₁ → t.whole ≡ true → 0 < t.length → 0 < length l → is_kind (get_or l 0 0) ≡ true → k < variable_limit
     → at + length l ≤ length bytes₀
     → ValueRead (from_value k (row_of (drop t.end l)).fields) (get_or l 0 0) at t.length k (buffers bytes₁ numbers₀) r (buffers bytes numbers)
-    → NameRead (from_name number k (row_of l)) at k (buffers bytes₀ numbers₀) r (buffers bytes numbers)
-name-turn number at k l bytes₀ bytes₁ numbers₀ t r bytes numbers is w n h e g room more =
+    → NameRead (from_name wrong k (row_of l)) at k (buffers bytes₀ numbers₀) r (buffers bytes numbers)
+name-turn wrong at k l bytes₀ bytes₁ numbers₀ t r bytes numbers is w n h e g room more =
     let name = (text_of (drop 1 l)).bytes in
     let kind = get_or l 0 0 in
     let fs = (row_of (drop t.end l)).fields in
     let some : 0 < length name = omega (arith, is.count) in
     let fit : at + length name ≤ length bytes₀ = omega (arith, is.count, is.forward, is.within) in
-    let found : from_name number k (row_of l) ≡ completed kind name (from_value k fs) =
-    from-kind number k l h e ∙ ap (λ q. names number k (name_field kind q.front ∷ q.fields)) (is.good w) ∙ names-turn-of number k kind name fs g some in
+    let found : from_name wrong k (row_of l) ≡ completed kind name (from_value k fs) =
+    from-kind wrong k l h e ∙ ap (λ q. names wrong k (name_field kind q.front ∷ q.fields)) (is.good w) ∙ names-turn-of wrong k kind name fs g some in
     rw found (with-name kind name (from_value k fs) at k bytes₀ numbers₀ r bytes numbers (rw (← is.texts w, ← is.count) more) fit)
 
 -- where there is no text, the name reader's finding is that of the fields
-from-marked : (number k : ℕ) (l : List ℕ) → ends_text l ≡ true → from_name number k (row_of l) ≡ names number k (row_of l).fields
+from-marked : (wrong : Refusal) (k : ℕ) (l : List ℕ) → ends_text l ≡ true → from_name wrong k (row_of l) ≡ names wrong k (row_of l).fields
 unfolding expect_no_text
-from-marked number k l m = rw (row-marked l m)
+from-marked wrong k l m = rw (row-marked l m)
 
--- where a name comes next, the number of a fault is of no account
-any-number : (m n k kind : ℕ) (u : Text) (fs : List Field) → names m k (name_field kind u ∷ fs) ≡ names n k (name_field kind u ∷ fs)
+-- where a name comes next, what a VALUE would be refused by is of no account
+any-number : (m n : Refusal) (k kind : ℕ) (u : Text) (fs : List Field) → names m k (name_field kind u ∷ fs) ≡ names n k (name_field kind u ∷ fs)
 unfolding names
 any-number m n k kind u [] = refl
 any-number m n k kind u (name_field kind₂ v ∷ fs) = refl
 any-number m n k kind u (value_field v ∷ fs) = refl
 
 value-of-none : (k : ℕ) (l : List ℕ) → ends_text l ≡ true → gives_value l ≡ false
-    → from_value k (row_of l).fields ≡ followed undefined (names value_in_value (suc k) (row_of l).fields)
+    → from_value k (row_of l).fields ≡ followed undefined (names ValueInValue (suc k) (row_of l).fields)
 unfolding ends_text gives_value row_of starts_name from_value names
 value-of-none k [] m e = refl
-value-of-none k (zero ∷ bs) m e = ap (followed undefined) (any-number no_variable value_in_value (suc k) VAR (row_of bs).front (row_of bs).fields)
+value-of-none k (zero ∷ bs) m e = ap (followed undefined) (any-number NoVariable ValueInValue (suc k) VAR (row_of bs).front (row_of bs).fields)
 value-of-none k (suc zero ∷ bs) m e = cc
 value-of-none k (suc (suc zero) ∷ bs) m e = cc
-value-of-none k (suc (suc (suc zero)) ∷ bs) m e = ap (followed undefined) (any-number no_variable value_in_value (suc k) USERVAR (row_of bs).front (row_of bs).fields)
+value-of-none k (suc (suc (suc zero)) ∷ bs) m e = ap (followed undefined) (any-number NoVariable ValueInValue (suc k) USERVAR (row_of bs).front (row_of bs).fields)
 value-of-none k (suc (suc (suc (suc b))) ∷ bs) m e = cc
 
 value_of : (k : ℕ) (l : List ℕ) → gives_value l ≡ true → (row_of l).fields ≡ value_field (row_of (drop 1 l)).front ∷ (row_of (drop 1 l)).fields
@@ -210,8 +211,8 @@ value_of k [] e = cc
 value_of k (b ∷ bs) e = rw (eqb-true b 1 e)
 
 -- what the name reader finds where there is no text, one variable further
-next-name : (k : ℕ) (l : List ℕ) → ends_text l ≡ true → names value_in_value (suc k) (row_of l).fields ≡ from_name value_in_value (k + 1) (row_of l)
-next-name k l m = ap (λ i. names value_in_value i (row_of l).fields) (sym (add-one k)) ∙ sym (from-marked value_in_value (k + 1) l m)
+next-name : (k : ℕ) (l : List ℕ) → ends_text l ≡ true → names ValueInValue (suc k) (row_of l).fields ≡ from_name ValueInValue (k + 1) (row_of l)
+next-name k l m = ap (λ i. names ValueInValue i (row_of l).fields) (sym (add-one k)) ∙ sym (from-marked ValueInValue (k + 1) l m)
 
 -- a name without VALUE
 pub no_value : (l bytes : List ℕ) (at : ℕ) → ends_text l ≡ true → gives_value l ≡ false
@@ -228,12 +229,12 @@ no_value l bytes at m e = record {
   within = omega arith;
 }
 
-value-broken : (k : ℕ) (l : List ℕ) → gives_value l ≡ true → (row_of (drop 1 l)).front ≡ broken → from_value k (row_of l).fields ≡ bad_value bad_escape
+value-broken : (k : ℕ) (l : List ℕ) → gives_value l ≡ true → (row_of (drop 1 l)).front ≡ broken → from_value k (row_of l).fields ≡ bad_value BadEscape
 unfolding from_value
 value-broken k l e b = rw (value_of k l e, b)
 
 value-whole : (k : ℕ) (l v : List ℕ) (fs : List Field) → gives_value l ≡ true → row_of (drop 1 l) ≡ row (text v) fs
-    → from_value k (row_of l).fields ≡ followed (defined v) (names value_in_value (suc k) fs)
+    → from_value k (row_of l).fields ≡ followed (defined v) (names ValueInValue (suc k) fs)
 unfolding from_value
 value-whole k l v fs e g = rw (value_of k l e, g)
 
@@ -252,16 +253,16 @@ some-value l bytes₀ at t bytes e is = record {
 }
 
 -- a value gives way to the next name
-pub value-turn : (kind at n k : ℕ) (l bytes₀ bytes₁ numbers₀ : List ℕ) (t : Taken) (r : Answered) (bytes numbers : List ℕ)
+pub value-turn : (kind at n k : ℕ) (l bytes₀ bytes₁ numbers₀ : List ℕ) (t : Taken) (r : Result Held Refusal) (bytes numbers : List ℕ)
     → IsValue l bytes₀ (at + n) t bytes₁ → t.whole ≡ true → at + n + length l ≤ length bytes₀ → k < variable_limit → list_limit ≤ length numbers₀
-    → NameRead (from_name value_in_value (k + 1) (row_of (drop t.end l))) (at + n + t.length) (k + 1)
+    → NameRead (from_name ValueInValue (k + 1) (row_of (drop t.end l))) (at + n + t.length) (k + 1)
     (buffers bytes₁ (overwrite numbers₀ (record_width * k) (numbers_of (variable_record kind at n (at + n) t.length (mark_at l))))) r (buffers bytes numbers)
     → ValueRead (from_value k (row_of l).fields) kind at n k (buffers bytes₀ numbers₀) r (buffers bytes numbers)
 value-turn kind at n k l bytes₀ bytes₁ numbers₀ t r bytes numbers is w h g room more =
-    let found = from_name value_in_value (k + 1) (row_of (drop t.end l)) in
+    let found = from_name ValueInValue (k + 1) (row_of (drop t.end l)) in
     let fit : at + n + length (bytes_of is.value) ≤ length bytes₀ = omega (arith, is.count, is.forward, is.within) in
     rw (is.good w k) (with_value kind is.value found at n k bytes₀ numbers₀ r bytes numbers (rw (← is.texts w, ← is.mark, ← is.count) more) fit g room)
 
-pub value-fault : (found : Valued) (m kind at n k : ℕ) (before after : Buffers) → found ≡ bad_value m → ValueRead found kind at n k before (Fault m) after
+pub value-fault : (found : Valued) (m : Refusal) (kind at n k : ℕ) (before after : Buffers) → found ≡ bad_value m → ValueRead found kind at n k before (Err m) after
 unfolding ValueRead
 value-fault found m kind at n k before after e = rw e

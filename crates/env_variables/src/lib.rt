@@ -19,17 +19,16 @@ ghost use Rattle.env_delivery.specs.Promise.{delivery, read_after};
 
 use env::{DEFINED, LIST_LIMIT, PAYLOAD_LIMIT, RECORD_WIDTH, UNDEFINED, VALUE, VARIABLE_LIMIT};
 use env_codes::is_kind;
-use env_delivery::{Answer, deliver};
+use env_delivery::{Payload, deliver};
 use env_records::{record_of, set_record};
 use env_text::{Text, copy_text, text_at};
-use refusal::{BAD_ESCAPE, NO_VARIABLE, PAYLOAD_TOO_LONG, TOO_MANY_VARIABLES, VALUE_IN_VALUE};
+use refusal::Refusal;
 
-// How far the variables of a payload have been read: how many they are and the bytes that they take; or the number of a
-// fault.
+// How far the variables of a payload have been read: how many they are, and the bytes that they take.
 #[derive(Clone, Copy)]
-pub enum Found {
-    Variables(usize, usize),
-    Fault(u8),
+pub struct Held {
+    pub count: usize,
+    pub used: usize,
 }
 
 // Whether a byte opens a variable.
@@ -93,39 +92,39 @@ fn store(numbers: &mut [usize], k: usize, kind: u8, at: usize, n: usize, m: usiz
     set_record(numbers, k, record_of(kind as usize, at, n, at + n, m, mark));
 }
 
-// A name is expected, or nothing. A VALUE in its place is a fault with a number.
+// A name is expected, or nothing. A VALUE in its place is the fault that is given.
 #[cycle(name_value)]
 fn name(
     rest: &[u8],
-    fault: u8,
+    fault: Refusal,
     bytes: &mut [u8],
     at: usize,
     numbers: &mut [usize],
     k: usize,
-) -> Found
+) -> Result<Held, Refusal>
     requires { HasRoom rest.now at k (buffers bytes.old numbers.old) }
     ensures { NameRead (from_name fault k (row_of rest.now)) at k
         (buffers bytes.old numbers.old) result (buffers bytes.new numbers.new) }
 {
     if rest.len() == 0 {
-        return Found::Variables(k, at);
+        return Ok(Held { count: k, used: at });
     }
     let kind = rest[0];
     if kind == VALUE {
-        return Found::Fault(fault);
+        return Err(fault);
     }
     if !opens(kind) {
-        return Found::Fault(NO_VARIABLE);
+        return Err(Refusal::NoVariable);
     }
     if k == VARIABLE_LIMIT {
-        return Found::Fault(TOO_MANY_VARIABLES);
+        return Err(Refusal::TooManyVariables);
     }
     let t = take_text(rest, bytes, at);
     if !t.whole {
-        return Found::Fault(BAD_ESCAPE);
+        return Err(Refusal::BadEscape);
     }
     if t.length == 0 {
-        return Found::Fault(NO_VARIABLE);
+        return Err(Refusal::NoVariable);
     }
     let end = t.end;
     value(&rest[end..], kind, bytes, at, t.length, numbers, k)
@@ -142,7 +141,7 @@ fn value(
     n: usize,
     numbers: &mut [usize],
     k: usize,
-) -> Found
+) -> Result<Held, Refusal>
     requires { HasRoom rest.now (at + n) (k + 1) (buffers bytes.old numbers.old) × (ends_text rest.now ≡ true) }
     ensures { ValueRead (from_value k (row_of rest.now).fields) kind at n k
         (buffers bytes.old numbers.old) result (buffers bytes.new numbers.new) }
@@ -150,13 +149,13 @@ fn value(
     let place = at + n;
     let t = take_value(rest, bytes, place);
     if !t.whole {
-        return Found::Fault(BAD_ESCAPE);
+        return Err(Refusal::BadEscape);
     }
     store(numbers, k, kind, at, n, t.length, mark_at(rest));
     let end = t.end;
     name(
         &rest[end..],
-        VALUE_IN_VALUE,
+        Refusal::ValueInValue,
         bytes,
         place + t.length,
         numbers,
@@ -170,37 +169,36 @@ fn find_variables(
     rest: &[u8],
     texts: &mut [u8; PAYLOAD_LIMIT],
     records: &mut [usize; LIST_LIMIT],
-) -> Found
+) -> Result<Held, Refusal>
     requires { length rest.now ≤ payload_limit }
     ensures { NameRead (variables_of (row_of rest.now)) 0 0
         (buffers texts.old records.old) result (buffers texts.new records.new) }
 {
-    name(rest, NO_VARIABLE, texts, 0, records, 0)
+    name(rest, Refusal::NoVariable, texts, 0, records, 0)
 }
 
 // Reads what comes after the first byte of a payload, and delivers its variables. Names and values without their ESCs
 // go back to back into the buffer, and their records into the list, when nothing can be refused any more.
-pub fn read_variables(first: u8, rest: &[u8], bytes: &mut [u8], numbers: &mut [usize]) -> Answer
+pub fn read_variables(
+    first: u8,
+    rest: &[u8],
+    bytes: &mut [u8],
+    numbers: &mut [usize],
+) -> Result<Payload, Refusal>
     ensures { delivery result bytes.new numbers.new
         ≡ read_after first rest.now bytes.old numbers.old }
 {
     if PAYLOAD_LIMIT <= rest.len() {
-        return Answer::Refused(PAYLOAD_TOO_LONG);
+        return Err(Refusal::PayloadTooLong);
     }
     let mut texts = [0u8; PAYLOAD_LIMIT];
     let mut records = [0usize; LIST_LIMIT];
-    match find_variables(rest, &mut texts, &mut records) {
-        Found::Fault(n) => {
-            return Answer::Refused(n);
-        }
-        Found::Variables(count, used) => {
-            return deliver(
-                first,
-                &texts[0..used],
-                &records[0..RECORD_WIDTH * count],
-                bytes,
-                numbers,
-            );
-        }
-    }
+    let held = find_variables(rest, &mut texts, &mut records)?;
+    deliver(
+        first,
+        &texts[0..held.used],
+        &records[0..RECORD_WIDTH * held.count],
+        bytes,
+        numbers,
+    )
 }

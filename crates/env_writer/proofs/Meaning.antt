@@ -1,4 +1,5 @@
 -- What the writer's answer means: the theorem `Theorems.WroteReadsBack`. Assumes nothing.
+use Rattle.std.specs.Prelude.{Result, Ok, Err}
 use mathlib.Core.Path.{◌≡◌, refl}
 use mathlib.Core.Bool.{not}
 use mathlib.Core.List.{List, [], ◌∷◌, map}
@@ -16,8 +17,7 @@ use Rattle.env.specs.Read.{reading_of, says}
 use Rattle.env.specs.Write.{Objection, none, against, objection, payload_of, kinds_good}
 use Rattle.env.specs.Numbers.{records_of, variable_of, variables_held, is_placed, all_placed, placed}
 use Rattle.env.proofs.ReadingBack.{reads-back}
-use Rattle.refusal.specs.declared.Written.{Written}
-use Rattle.refusal.specs.declared.Written.TheVariants.{Wrote, Refused}
+use Rattle.refusal.specs.declared.Refusal.{Refusal}
 use Rattle.refusal.proofs.Writing.{not-wrote, wrote-front}
 use Rattle.env_writer.specs.Promise.{put, write_into}
 use Rattle.env_writer.specs.Theorems.{WroteReadsBack}
@@ -32,10 +32,10 @@ kinds-of bytes (r ∷ rs) t =
 
 module _ (first : ℕ) (bytes numbers out : List ℕ) where
   -- an answer that means what was written
-  abbrev Means : Outcome Written → Type 0
-  Means o = (n : ℕ) → o.answer ≡ Wrote n → reading_of (take n o.lent) ≡ says first (variables_held bytes numbers)
+  abbrev Means : Outcome (Result ℕ Refusal) → Type 0
+  Means o = (n : ℕ) → o.answer ≡ Ok n → reading_of (take n o.lent) ≡ says first (variables_held bytes numbers)
 
-  refused-means : (m : ℕ) → Means (outcome (Refused m) out)
+  refused-means : (m : Refusal) → Means (outcome (Err m) out)
   refused-means m n e = not-wrote e
 
   put-means : (o : Objection) → objection first (variables_held bytes numbers) ≡ o → T (is_first first) → T (placed bytes numbers)

@@ -13,41 +13,31 @@ ghost use Rattle.env_writer.specs.Internal.Puts.{HasRoom};
 use env::{
     DEFINED, ESC, PAYLOAD_LIMIT, RECORD_WIDTH, USERVAR, VALUE, VAR, VARIABLE_LIMIT, VariableRecord,
 };
-use refusal::Written;
+use refusal::Refusal;
 
 // The length that says: past the limit.
 const TOO_LONG: usize = PAYLOAD_LIMIT + 1;
 
 // Whether a record is a VAR or a USERVAR, with its name and its value in the buffer, and without value bytes where it
 // is undefined.
+#[tactic(auto, unfolding(env::specs::Numbers::fits))]
 fn is_placed(bytes: &[u8], v: VariableRecord) -> bool
     ensures { result ≡ is_placed bytes.now v }
 {
-    if !env_codes::is_kind(v.kind) {
-        return false;
-    }
-    if !env_records::fits(bytes.len(), v.name_at, v.name_length) {
-        return false;
-    }
-    if !env_records::fits(bytes.len(), v.value_at, v.value_length) {
-        return false;
-    }
-    if v.mark == DEFINED {
-        return true;
-    }
-    v.value_length == 0
+    env_codes::is_kind(v.kind)
+        && env_records::fits(bytes.len(), v.name_at, v.name_length)
+        && env_records::fits(bytes.len(), v.value_at, v.value_length)
+        && (v.mark == DEFINED || v.value_length == 0)
 }
 
 // Whether every record is.
 fn all_placed(bytes: &[u8], numbers: &[usize]) -> bool
     ensures { result ≡ placed bytes.now numbers.now }
 {
-    let mut i = 0;
-    while i < numbers.len() / RECORD_WIDTH {
+    for i in 0..numbers.len() / RECORD_WIDTH {
         if !is_placed(bytes, env_records::record_at(numbers, i)) {
             return false;
         }
-        i += 1;
     }
     true
 }
@@ -56,13 +46,11 @@ fn all_placed(bytes: &[u8], numbers: &[usize]) -> bool
 fn any_nameless(numbers: &[usize]) -> bool
     ensures { (bytes : List ℕ) → placed bytes numbers.now ≡ true → result ≡ nameless (variables_held bytes numbers.now) }
 {
-    let mut i = 0;
-    while i < numbers.len() / RECORD_WIDTH {
+    for i in 0..numbers.len() / RECORD_WIDTH {
         let v = env_records::record_at(numbers, i);
         if v.name_length == 0 {
             return true;
         }
-        i += 1;
     }
     false
 }
@@ -113,13 +101,11 @@ fn measure(bytes: &[u8], numbers: &[usize]) -> usize
     ensures { result ≡ min (payload_limit + 1) (1 + length (written_variables (variables_held bytes.now numbers.now))) }
 {
     let mut n = 1;
-    let mut i = 0;
-    while i < numbers.len() / RECORD_WIDTH {
+    for i in 0..numbers.len() / RECORD_WIDTH {
         if PAYLOAD_LIMIT < n {
             return n;
         }
         n = longer_by_variable(n, bytes, env_records::record_at(numbers, i));
-        i += 1;
     }
     n
 }
@@ -156,42 +142,40 @@ fn put_all(bytes: &[u8], numbers: &[usize], out: &mut [u8])
     requires { HasRoom bytes.now numbers.now out.old }
     ensures { out.new ≡ overwrite out.old 1 (written_variables (variables_held bytes.now numbers.now)) }
 {
-    let mut i = 0;
     let mut at = 1;
-    while i < numbers.len() / RECORD_WIDTH {
+    for i in 0..numbers.len() / RECORD_WIDTH {
         at = put_variable(bytes, env_records::record_at(numbers, i), out, at);
-        i += 1;
     }
 }
 
 // Writes a first byte, and the variables that records have over `bytes`, to the front of `out`. A refusal leaves `out`
 // as it was.
-pub fn write(first: u8, bytes: &[u8], numbers: &[usize], out: &mut [u8]) -> Written
+pub fn write(first: u8, bytes: &[u8], numbers: &[usize], out: &mut [u8]) -> Result<usize, Refusal>
     ensures { outcome result out.new ≡ write_into first bytes.now numbers.now out.old }
 {
     if !env_codes::is_first(first) {
-        return Written::Refused(refusal::NOT_IS_OR_INFO);
+        return Err(Refusal::NotIsOrInfo);
     }
     if !all_placed(bytes, numbers) {
-        return Written::Refused(refusal::BAD_VARIABLE_RECORD);
+        return Err(Refusal::BadVariableRecord);
     }
     if any_nameless(numbers) {
-        return Written::Refused(refusal::NO_VARIABLE);
+        return Err(Refusal::NoVariable);
     }
     if VARIABLE_LIMIT < numbers.len() / RECORD_WIDTH {
-        return Written::Refused(refusal::TOO_MANY_VARIABLES);
+        return Err(Refusal::TooManyVariables);
     }
     if env_search::repeats(bytes, numbers) {
-        return Written::Refused(refusal::REPEATED_VARIABLE);
+        return Err(Refusal::RepeatedVariable);
     }
     let length = measure(bytes, numbers);
     if PAYLOAD_LIMIT < length {
-        return Written::Refused(refusal::PAYLOAD_TOO_LONG);
+        return Err(Refusal::PayloadTooLong);
     }
     if out.len() < length {
-        return Written::Refused(refusal::NO_ROOM);
+        return Err(Refusal::NoRoom);
     }
     out[0] = first;
     put_all(bytes, numbers, out);
-    Written::Wrote(length)
+    Ok(length)
 }

@@ -1,7 +1,7 @@
 -- The numbers by which the kinds of events and the answers of writers cross to a caller in C.
-use Rattle.std.specs.Prelude.{◌≡◌, ◌↔◌, ◌⊎◌, ℕ, ◌<◌, Bool, eqb, if◌then◌else◌}
-use Rattle.refusal.specs.declared.Written.{Written}
-use Rattle.refusal.specs.declared.Written.TheVariants.{Wrote, Refused}
+use Rattle.std.specs.Prelude.{◌≡◌, ◌↔◌, ◌⊎◌, ℕ, ◌<◌, Bool, Option, None, Some, Result, Ok, Err, eqb, if◌then◌else◌}
+use Rattle.refusal.specs.declared.Refusal.{Refusal}
+use Rattle.refusal.specs.Refusal.{number}
 use Rattle.telnet.specs.declared.Verb.{Verb}
 use Rattle.telnet.specs.declared.Verb.TheVariants.{Will, Wont, Do, Dont}
 use Rattle.telnet.specs.declared.Kind.{Kind}
@@ -9,10 +9,6 @@ use Rattle.telnet.specs.declared.Kind.TheVariants.{Data, Command, Negotiation, S
 use Rattle.telnet.specs.Event.{code}
 use Rattle.export.specs.declared.KindNumbers.{KindNumbers}
 use Rattle.export.specs.declared.TvWritten.{TvWritten}
-use Rattle.export.specs.declared.NamedVerb.{NamedVerb}
-use Rattle.export.specs.declared.NamedVerb.TheVariants.{Nothing as NoVerb, Verb as IsVerb}
-use Rattle.export.specs.declared.NamedKind.{NamedKind}
-use Rattle.export.specs.declared.NamedKind.TheVariants.{Nothing as NoKind, Kind as IsKind}
 use Rattle.octets.specs.Lent.{Outcome, outcome}
 
 -- an outcome with its answer as numbers; what is lent is left as it is
@@ -31,9 +27,9 @@ abbrev pub not_written : ℕ → TvWritten
 not_written r = record { refusal = r; length = 0 }
 
 -- the numbers of a writer's answer
-abbrev pub written_numbers : Written → TvWritten
-written_numbers (Wrote n) = wrote n
-written_numbers (Refused r) = not_written r
+abbrev pub written_numbers : Result ℕ Refusal → TvWritten
+written_numbers (Ok n) = wrote n
+written_numbers (Err e) = not_written (number e)
 
 abbrev pub three : (w c o : ℕ) → KindNumbers
 three w c o = record { what = w; code = c; option = o }
@@ -45,27 +41,27 @@ kind_numbers (Command c) = three 2 c 0
 kind_numbers (Negotiation v o) = three 3 (code v) o
 kind_numbers (Subnegotiation o) = three 4 0 o
 
--- the option command that a number names
-unfoldable pub verb_named : ℕ → NamedVerb
+-- the option command that a number names, if it names one
+unfoldable pub verb_named : ℕ → Option Verb
 verb_named c =
-    if eqb c 251 then IsVerb Will else
-    if eqb c 252 then IsVerb Wont else
-    if eqb c 253 then IsVerb Do else
-    if eqb c 254 then IsVerb Dont else
-    NoVerb
+    if eqb c 251 then Some Will else
+    if eqb c 252 then Some Wont else
+    if eqb c 253 then Some Do else
+    if eqb c 254 then Some Dont else
+    None
 
-abbrev pub negotiation_named : NamedVerb → ℕ → NamedKind
-negotiation_named NoVerb o = NoKind
-negotiation_named (IsVerb v) o = IsKind (Negotiation v o)
+abbrev pub negotiation_named : Option Verb → ℕ → Option Kind
+negotiation_named None o = None
+negotiation_named (Some v) o = Some (Negotiation v o)
 
--- the kind that three numbers name
-unfoldable pub kind_named : (w c o : ℕ) → NamedKind
+-- the kind that three numbers name, if they name one
+unfoldable pub kind_named : (w c o : ℕ) → Option Kind
 kind_named w c o =
-    if eqb w 1 then IsKind Data else
-    if eqb w 2 then IsKind (Command c) else
+    if eqb w 1 then Some Data else
+    if eqb w 2 then Some (Command c) else
     if eqb w 3 then negotiation_named (verb_named c) o else
-    if eqb w 4 then IsKind (Subnegotiation o) else
-    NoKind
+    if eqb w 4 then Some (Subnegotiation o) else
+    None
 
 -- a number that is none of 251 to 254
 abbrev pub NoCode : ℕ → Type 0
@@ -74,6 +70,6 @@ NoCode c = (c < 251) ⊎ (254 < c)
 -- Which kind numbers name: the numbers of a kind name it, and what is none of 1 to 4, or 3 with a code that is no
 -- option command, names nothing.
 pub record KindsNamed : Type 0 where
-  pub back : (k : Kind) → kind_named (kind_numbers k).what (kind_numbers k).code (kind_numbers k).option ≡ IsKind k
-  pub no_verb : (c : ℕ) → (verb_named c ≡ NoVerb) ↔ NoCode c
-  pub no_kind : (w c o : ℕ) → (kind_named w c o ≡ NoKind) ↔ (((w < 1) ⊎ (4 < w)) ⊎ ((w ≡ 3) × NoCode c))
+  pub back : (k : Kind) → kind_named (kind_numbers k).what (kind_numbers k).code (kind_numbers k).option ≡ Some k
+  pub no_verb : (c : ℕ) → (verb_named c ≡ None) ↔ NoCode c
+  pub no_kind : (w c o : ℕ) → (kind_named w c o ≡ None) ↔ (((w < 1) ⊎ (4 < w)) ⊎ ((w ≡ 3) × NoCode c))

@@ -5,9 +5,8 @@
 
 ghost use Rattle.std.specs.Prelude.{◌≡◌};
 ghost use Rattle.export.specs.Numbers.{kind_numbers, verb_named, negotiation_named, kind_named, KindsNamed, mark, written_numbers};
-ghost use Rattle.telnet.specs.Event.{code};
 
-use refusal::Written;
+use refusal::Refusal;
 use telnet::{DO, DONT, Kind, Verb, WILL, WONT};
 
 // The kind of an event. `what` is 1 for data, 2 for a command, 3 for a negotiation, 4 for a subnegotiation. `code` is
@@ -27,32 +26,6 @@ pub struct TvWritten {
     pub length: usize,
 }
 
-// The option command that a number names, if it names one.
-#[derive(Clone, Copy)]
-pub enum NamedVerb {
-    Nothing,
-    Verb(Verb),
-}
-
-// The kind of an event that three numbers name, if they name one.
-#[derive(Clone, Copy)]
-pub enum NamedKind {
-    Nothing,
-    Kind(Kind),
-}
-
-// The code of an option command.
-pub fn code_of(verb: Verb) -> u8
-    ensures { result ≡ code verb }
-{
-    match verb {
-        Verb::Will => WILL,
-        Verb::Wont => WONT,
-        Verb::Do => DO,
-        Verb::Dont => DONT,
-    }
-}
-
 pub fn kind_numbers(kind: Kind) -> KindNumbers
     ensures { result ≡ kind_numbers kind }
 {
@@ -69,7 +42,7 @@ pub fn kind_numbers(kind: Kind) -> KindNumbers
         },
         Kind::Negotiation(verb, option) => KindNumbers {
             what: 3,
-            code: code_of(verb),
+            code: verb.code(),
             option,
         },
         Kind::Subnegotiation(option) => KindNumbers {
@@ -80,36 +53,37 @@ pub fn kind_numbers(kind: Kind) -> KindNumbers
     }
 }
 
-pub fn verb_named(code: u8) -> NamedVerb
+// The option command that a number names, if it names one.
+#[tactic(auto, unfolding(crate::specs::Numbers::verb_named))]
+pub fn verb_named(code: u8) -> Option<Verb>
     ensures { result ≡ verb_named code }
 {
     match code {
-        WILL => NamedVerb::Verb(Verb::Will),
-        WONT => NamedVerb::Verb(Verb::Wont),
-        DO => NamedVerb::Verb(Verb::Do),
-        DONT => NamedVerb::Verb(Verb::Dont),
-        _ => NamedVerb::Nothing,
+        WILL => Some(Verb::Will),
+        WONT => Some(Verb::Wont),
+        DO => Some(Verb::Do),
+        DONT => Some(Verb::Dont),
+        _ => None,
     }
 }
 
-fn negotiation_named(code: u8, option: u8) -> NamedKind
+fn negotiation_named(code: u8, option: u8) -> Option<Kind>
     ensures { result ≡ negotiation_named (verb_named code) option }
 {
-    match verb_named(code) {
-        NamedVerb::Verb(verb) => NamedKind::Kind(Kind::Negotiation(verb, option)),
-        NamedVerb::Nothing => NamedKind::Nothing,
-    }
+    Some(Kind::Negotiation(verb_named(code)?, option))
 }
 
-pub fn kind_named(what: u8, code: u8, option: u8) -> NamedKind
+// The kind of an event that three numbers name, if they name one.
+#[tactic(auto, unfolding(crate::specs::Numbers::kind_named))]
+pub fn kind_named(what: u8, code: u8, option: u8) -> Option<Kind>
     ensures { result ≡ kind_named what code option }
 {
     match what {
-        1 => NamedKind::Kind(Kind::Data),
-        2 => NamedKind::Kind(Kind::Command(code)),
+        1 => Some(Kind::Data),
+        2 => Some(Kind::Command(code)),
         3 => negotiation_named(code, option),
-        4 => NamedKind::Kind(Kind::Subnegotiation(option)),
-        _ => NamedKind::Nothing,
+        4 => Some(Kind::Subnegotiation(option)),
+        _ => None,
     }
 }
 
@@ -117,17 +91,17 @@ pub fn kind_named(what: u8, code: u8, option: u8) -> NamedKind
 pub fn mark(set: bool) -> u8
     ensures { result ≡ mark set }
 {
-    if set { 1 } else { 0 }
+    set as u8
 }
 
 // What a writer answers, as numbers.
-pub fn written_numbers(answer: Written) -> TvWritten
+pub fn written_numbers(answer: Result<usize, Refusal>) -> TvWritten
     ensures { result ≡ written_numbers answer }
 {
     match answer {
-        Written::Wrote(length) => TvWritten { refusal: 0, length },
-        Written::Refused(n) => TvWritten {
-            refusal: n,
+        Ok(length) => TvWritten { refusal: 0, length },
+        Err(e) => TvWritten {
+            refusal: e.number(),
             length: 0,
         },
     }

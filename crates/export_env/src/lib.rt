@@ -13,14 +13,15 @@ ghost use Rattle.env_writer.specs.Promise.{write_into};
 ghost use Rattle.env_search.specs.Places.{place_of};
 ghost use Rattle.octets.specs.Lent.{outcome};
 
-use env_delivery::Answer;
+use env_delivery::Payload;
 use env_search::ValuePlace;
 use export::TvWritten;
+use refusal::Refusal;
 
 // A payload that was read: its first byte (0 IS, 2 INFO), how many variables it has, and how many bytes their names and
 // values take.
 #[repr(C)]
-#[derive(Clone, Copy)]
+#[derive(Clone, Copy, Default)]
 pub struct TvPayload {
     pub refusal: u8,
     pub first: u8,
@@ -30,42 +31,36 @@ pub struct TvPayload {
 
 // The place of a value in a buffer. `present` is 1, or 0 with the others 0, for an undefined variable too.
 #[repr(C)]
-#[derive(Clone, Copy)]
+#[derive(Clone, Copy, Default)]
 pub struct TvValue {
     pub present: u8,
     pub at: usize,
     pub length: usize,
 }
 
-fn payload_numbers(answer: Answer) -> TvPayload
+fn payload_numbers(answer: Result<Payload, Refusal>) -> TvPayload
     ensures { result ≡ payload_numbers answer }
 {
     match answer {
-        Answer::Read(first, variables, bytes) => TvPayload {
+        Ok(payload) => TvPayload {
             refusal: 0,
-            first,
-            variables,
-            bytes,
+            first: payload.first,
+            variables: payload.count,
+            bytes: payload.used,
         },
-        Answer::Refused(n) => TvPayload {
-            refusal: n,
-            first: 0,
-            variables: 0,
-            bytes: 0,
+        Err(e) => TvPayload {
+            refusal: e.number(),
+            ..TvPayload::default()
         },
     }
 }
 
-fn place_numbers(place: ValuePlace) -> TvValue
+fn place_numbers(place: Option<ValuePlace>) -> TvValue
     ensures { result ≡ place_numbers place }
 {
     match place {
-        ValuePlace::Absent => TvValue {
-            present: 0,
-            at: 0,
-            length: 0,
-        },
-        ValuePlace::At(at, length) => TvValue {
+        None => TvValue::default(),
+        Some(ValuePlace { at, length }) => TvValue {
             present: 1,
             at,
             length,

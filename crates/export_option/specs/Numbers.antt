@@ -1,5 +1,5 @@
 -- The numbers of the sides of a session and of what a call of them answers, and the sides that numbers name.
-use Rattle.std.specs.Prelude.{◌≡◌, ◌↔◌, ◌⊎◌, ℕ, ◌<◌, Bool, not, ◌||◌, List, eqb, ltb, length, if◌then◌else◌}
+use Rattle.std.specs.Prelude.{◌≡◌, ◌↔◌, ◌⊎◌, ℕ, ◌<◌, Bool, not, ◌||◌, List, eqb, ltb, length, if◌then◌else◌, Option, None, Some}
 use Rattle.option_rules.specs.declared.Command.{Command}
 use Rattle.option_rules.specs.declared.Command.TheVariants.{On as on, Off as off}
 use Rattle.option_rules.specs.declared.Side.{Side}
@@ -7,7 +7,6 @@ use Rattle.option_rules.specs.declared.Side.TheVariants.{Off, On, WantOff, WantO
 use Rattle.option_verbs.specs.declared.Whose.{Whose}
 use Rattle.option_verbs.specs.declared.Whose.TheVariants.{Ours, Other}
 use Rattle.option_verbs.specs.declared.Outgoing.{Outgoing}
-use Rattle.option_verbs.specs.declared.Outgoing.TheVariants.{Nothing as NoCommand, Command as OptionCommand}
 use Rattle.option_sides.specs.declared.Pair.{Pair}
 use Rattle.option_sides.specs.declared.Sides.{Sides}
 use Rattle.option_sides.specs.declared.Answered.{Answered}
@@ -19,10 +18,10 @@ use Rattle.export_option.specs.declared.TvPair.{TvPair}
 use Rattle.export_option.specs.declared.TvSides.{TvSides}
 use Rattle.export_option.specs.declared.TvAnswered.{TvAnswered}
 use Rattle.export_option.specs.declared.TvSent.{TvSent}
-use Rattle.export.specs.declared.NamedVerb.{NamedVerb}
-use Rattle.export.specs.declared.NamedVerb.TheVariants.{Nothing as NoVerb, Verb as IsVerb}
+use Rattle.telnet.specs.declared.Verb.{Verb}
 use Rattle.export.specs.Numbers.{numbered}
 use Rattle.refusal.specs.Refusal.{past_the_end, bad_command, off_answered_by_on}
+use Rattle.refusal.specs.RefusedBy.{number_or_0}
 use Rattle.octets.specs.Lent.{Outcome, outcome}
 
 -- the number of a state: the rows of the specification's table, from 0 on
@@ -79,29 +78,29 @@ silent s n = record { sides = s; number = n; writes = 0; code = 0; option = 0 }
 abbrev pub sending : TvSides → (number code option : ℕ) → TvAnswered
 sending s n c o = record { sides = s; number = n; writes = 1; code = c; option = o }
 
-abbrev pub answering : TvSides → (number : ℕ) → Outgoing → TvAnswered
-answering s n NoCommand = silent s n
-answering s n (OptionCommand v o) = sending s n (code v) o
+abbrev pub answering : TvSides → (number : ℕ) → Option Outgoing → TvAnswered
+answering s n None = silent s n
+answering s n (Some q) = sending s n (code q.verb) q.option
 
 abbrev pub answered_numbers : (given : TvSides) → Answered → TvAnswered
-answered_numbers given a = answering (handed_back given a.number a.sides) a.number a.writes
+answered_numbers given a = let n = number_or_0 a.refusal in answering (handed_back given n a.sides) n a.writes
 
 -- a receipt, by the option command that a number names: where it names none, the sides come back as they were given
-abbrev pub receive_named : TvSides → NamedVerb → (option : ℕ) (accept : Bool) → TvAnswered
-receive_named s NoVerb o accept = silent s bad_command
-receive_named s (IsVerb v) o accept = answered_numbers s (received (sides_named s) v o accept)
+abbrev pub receive_named : TvSides → Option Verb → (option : ℕ) (accept : Bool) → TvAnswered
+receive_named s None o accept = silent s bad_command
+receive_named s (Some v) o accept = answered_numbers s (received (sides_named s) v o accept)
 
 -- a step with its command on the line
 abbrev pub sent_to : TvSides → (number place : ℕ) → TvSent
 sent_to s n p = record { sides = s; number = n; place = p }
 
 abbrev pub sent_numbers : (given : TvSides) → Sent → TvSent
-sent_numbers given s = sent_to (handed_back given s.number s.sides) s.number s.place
+sent_numbers given s = let n = number_or_0 s.refusal in sent_to (handed_back given n s.sides) n s.place
 
 -- a receipt with its answer on the line: where a number names no option command it is refused by 6, after 5
-unfoldable pub receive_on_named : TvSides → NamedVerb → (option : ℕ) (accept : Bool) (line : List ℕ) (at : ℕ) → Outcome TvSent
-receive_on_named s NoVerb o accept line at = outcome (sent_to s (if ltb (length line) at then past_the_end else bad_command) at) line
-receive_on_named s (IsVerb v) o accept line at = numbered (sent_numbers s) (received_on (sides_named s) v o accept line at)
+unfoldable pub receive_on_named : TvSides → Option Verb → (option : ℕ) (accept : Bool) (line : List ℕ) (at : ℕ) → Outcome TvSent
+receive_on_named s None o accept line at = outcome (sent_to s (if ltb (length line) at then past_the_end else bad_command) at) line
+receive_on_named s (Some v) o accept line at = numbered (sent_numbers s) (received_on (sides_named s) v o accept line at)
 
 -- whose side, by whether it is ours
 abbrev pub whose_named : Bool → Whose

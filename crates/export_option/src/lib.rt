@@ -4,17 +4,18 @@
 
 ghost use Rattle.std.specs.Prelude.{◌≡◌};
 ghost use Rattle.export_option.specs.Numbers.{side_number, side_named, pair_numbers, pair_named, sides_numbers, sides_named, whose_named, command_named};
-ghost use Rattle.export_option.specs.Numbers.{is_refusal, handed_back, answered_numbers, receive_named, sent_numbers, receive_on_named, SidesNamed};
+ghost use Rattle.export_option.specs.Numbers.{handed_back, silent, answered_numbers, receive_named, sent_numbers, receive_on_named, SidesNamed};
 ghost use Rattle.export.specs.Numbers.{numbered, verb_named};
 ghost use Rattle.octets.specs.Lent.{outcome};
 ghost use Rattle.option_line.specs.Line.{requested_on, heard_on};
 ghost use Rattle.option_sides.specs.Session.{all_off, requested};
+ghost use Rattle.refusal.specs.RefusedBy.{number_or_0};
 
-use export::NamedVerb;
 use option_line::Sent;
 use option_rules::{Command, Side};
 use option_sides::{Answered, Pair, Sides};
 use option_verbs::{Outgoing, Whose};
+use refusal::{Refusal, number_or_0};
 
 // The two sides of one option, each by its state: 0 off, 1 on, 2 want off, 3 want off then on, 4 want on, 5 want on
 // then off. A number above 5 reads as off.
@@ -59,19 +60,14 @@ pub struct TvSent {
     pub place: usize,
 }
 
+// The states stand in their type in the order of their numbers.
 fn side_number(side: Side) -> u8
     ensures { result ≡ side_number side }
 {
-    match side {
-        Side::Off => 0,
-        Side::On => 1,
-        Side::WantOff => 2,
-        Side::WantOffThenOn => 3,
-        Side::WantOn => 4,
-        Side::WantOnThenOff => 5,
-    }
+    side as u8
 }
 
+#[tactic(auto, unfolding(crate::specs::Numbers::side_named))]
 fn side_named(number: u8) -> Side
     ensures { result ≡ side_named number }
 {
@@ -85,90 +81,91 @@ fn side_named(number: u8) -> Side
     }
 }
 
-fn pair_numbers(pair: Pair) -> TvPair
-    ensures { result ≡ pair_numbers pair }
-{
-    let ours = pair.ours;
-    let other = pair.other;
-    TvPair {
-        ours: side_number(ours),
-        other: side_number(other),
+impl From<Pair> for TvPair {
+    ghost from_gives = { λ pair numbers. numbers ≡ pair_numbers pair };
+
+    fn from(pair: Pair) -> TvPair {
+        TvPair {
+            ours: side_number(pair.ours),
+            other: side_number(pair.other),
+        }
     }
 }
 
-fn pair_named(pair: TvPair) -> Pair
-    ensures { result ≡ pair_named pair }
-{
-    Pair {
-        ours: side_named(pair.ours),
-        other: side_named(pair.other),
+impl From<TvPair> for Pair {
+    ghost from_gives = { λ numbers pair. pair ≡ pair_named numbers };
+
+    fn from(pair: TvPair) -> Pair {
+        Pair {
+            ours: side_named(pair.ours),
+            other: side_named(pair.other),
+        }
     }
 }
 
-fn sides_numbers(sides: Sides) -> TvSides
-    ensures { result ≡ sides_numbers sides }
-{
-    TvSides {
-        binary: pair_numbers(sides.binary),
-        suppress_go_ahead: pair_numbers(sides.suppress_go_ahead),
-        terminal: pair_numbers(sides.terminal),
-        records: pair_numbers(sides.records),
-        environ: pair_numbers(sides.environ),
+impl From<Sides> for TvSides {
+    ghost from_gives = { λ sides numbers. numbers ≡ sides_numbers sides };
+
+    fn from(sides: Sides) -> TvSides {
+        TvSides {
+            binary: sides.binary.into(),
+            suppress_go_ahead: sides.suppress_go_ahead.into(),
+            terminal: sides.terminal.into(),
+            records: sides.records.into(),
+            environ: sides.environ.into(),
+        }
     }
 }
 
-fn sides_named(sides: TvSides) -> Sides
-    ensures { result ≡ sides_named sides }
-{
-    Sides {
-        binary: pair_named(sides.binary),
-        suppress_go_ahead: pair_named(sides.suppress_go_ahead),
-        terminal: pair_named(sides.terminal),
-        records: pair_named(sides.records),
-        environ: pair_named(sides.environ),
+impl From<TvSides> for Sides {
+    ghost from_gives = { λ numbers sides. sides ≡ sides_named numbers };
+
+    fn from(sides: TvSides) -> Sides {
+        Sides {
+            binary: sides.binary.into(),
+            suppress_go_ahead: sides.suppress_go_ahead.into(),
+            terminal: sides.terminal.into(),
+            records: sides.records.into(),
+            environ: sides.environ.into(),
+        }
     }
 }
 
-// Whether a number refuses: 14 is a note.
-fn is_refusal(number: u8) -> bool
-    ensures { result ≡ is_refusal number }
+// A refusal hands back what was given; the note `OffAnsweredByOn` is no refusal.
+#[tactic(auto, unfolding(crate::specs::Numbers::is_refusal, crate::specs::Numbers::handed_back))]
+fn handed_back(given: TvSides, refusal: Option<Refusal>, sides: Sides) -> TvSides
+    ensures { result ≡ handed_back given (number_or_0 refusal) sides }
 {
-    match number {
-        0 => false,
-        refusal::OFF_ANSWERED_BY_ON => false,
-        _ => true,
+    match refusal {
+        None | Some(Refusal::OffAnsweredByOn) => sides.into(),
+        Some(_) => given,
     }
 }
 
-// A refusal hands back what was given.
-fn handed_back(given: TvSides, number: u8, sides: Sides) -> TvSides
-    ensures { result ≡ handed_back given number sides }
+fn silent(sides: TvSides, number: u8) -> TvAnswered
+    ensures { result ≡ silent sides number }
 {
-    if is_refusal(number) {
-        return given;
+    TvAnswered {
+        sides,
+        number,
+        writes: 0,
+        code: 0,
+        option: 0,
     }
-    sides_numbers(sides)
 }
 
 fn answered_numbers(given: TvSides, answer: Answered) -> TvAnswered
     ensures { result ≡ answered_numbers given answer }
 {
-    let number = answer.number;
-    let sides = handed_back(given, number, answer.sides);
-    let writes = answer.writes;
-    match writes {
-        Outgoing::Nothing => TvAnswered {
-            sides,
-            number,
-            writes: 0,
-            code: 0,
-            option: 0,
-        },
-        Outgoing::Command(verb, option) => TvAnswered {
+    let number = number_or_0(answer.refusal);
+    let sides = handed_back(given, answer.refusal, answer.sides);
+    match answer.writes {
+        None => silent(sides, number),
+        Some(Outgoing { verb, option }) => TvAnswered {
             sides,
             number,
             writes: 1,
-            code: export::code_of(verb),
+            code: verb.code(),
             option,
         },
     }
@@ -177,10 +174,9 @@ fn answered_numbers(given: TvSides, answer: Answered) -> TvAnswered
 fn sent_numbers(given: TvSides, sent: Sent) -> TvSent
     ensures { result ≡ sent_numbers given sent }
 {
-    let number = sent.number;
     TvSent {
-        sides: handed_back(given, number, sent.sides),
-        number,
+        sides: handed_back(given, sent.refusal, sent.sides),
+        number: number_or_0(sent.refusal),
         place: sent.place,
     }
 }
@@ -206,7 +202,7 @@ pub fn states_named()
 pub fn tv_sides_fresh() -> TvSides
     ensures { result ≡ sides_numbers all_off }
 {
-    sides_numbers(Sides::fresh())
+    Sides::fresh().into()
 }
 
 // WILL, WONT, DO or DONT (251 to 254) was received, with its option byte; on is accepted or declined where that is
@@ -215,16 +211,8 @@ pub fn tv_sides_receive(sides: TvSides, code: u8, option: u8, accept: bool) -> T
     ensures { result ≡ receive_named sides (verb_named code) option accept }
 {
     match export::verb_named(code) {
-        NamedVerb::Verb(verb) => {
-            answered_numbers(sides, sides_named(sides).receive(verb, option, accept))
-        }
-        NamedVerb::Nothing => TvAnswered {
-            sides,
-            number: refusal::BAD_COMMAND,
-            writes: 0,
-            code: 0,
-            option: 0,
-        },
+        Some(verb) => { answered_numbers(sides, Sides::from(sides).receive(verb, option, accept)) }
+        None => silent(sides, Refusal::BadCommand.number()),
     }
 }
 
@@ -234,11 +222,12 @@ pub fn tv_sides_request(sides: TvSides, ours: bool, option: u8, on: bool) -> TvA
 {
     let whose = whose_named(ours);
     let command = command_named(on);
-    answered_numbers(sides, sides_named(sides).request(whose, option, command))
+    answered_numbers(sides, Sides::from(sides).request(whose, option, command))
 }
 
 // WILL, WONT, DO or DONT was received, and the answer goes on the line at a place. Refused by 5; by 6 where the code is
 // no option command; by 4 where the answer does not fit.
+#[tactic(auto, unfolding(crate::specs::Numbers::receive_on_named))]
 pub fn tv_option_receive(
     sides: TvSides,
     code: u8,
@@ -250,21 +239,19 @@ pub fn tv_option_receive(
     ensures { outcome result line.new ≡ receive_on_named sides (verb_named code) option accept line.old at }
 {
     match export::verb_named(code) {
-        NamedVerb::Verb(verb) => {
-            let sent = option_line::receive(sides_named(sides), verb, option, accept, line, at);
+        Some(verb) => {
+            let sent = option_line::receive(sides.into(), verb, option, accept, line, at);
             return sent_numbers(sides, sent);
         }
-        NamedVerb::Nothing => {
-            if line.len() < at {
-                return TvSent {
-                    sides,
-                    number: refusal::PAST_THE_END,
-                    place: at,
-                };
-            }
+        None => {
+            let why = if line.len() < at {
+                Refusal::PastTheEnd
+            } else {
+                Refusal::BadCommand
+            };
             return TvSent {
                 sides,
-                number: refusal::BAD_COMMAND,
+                number: why.number(),
                 place: at,
             };
         }
@@ -284,7 +271,7 @@ pub fn tv_option_request(
     ensures { outcome result line.new
         ≡ numbered (sent_numbers sides) (requested_on (sides_named sides) (whose_named ours) option (command_named on) line.old at) }
 {
-    let named = sides_named(sides);
+    let named = Sides::from(sides);
     let whose = whose_named(ours);
     let command = command_named(on);
     sent_numbers(
@@ -306,7 +293,7 @@ pub fn tv_option_hear(
     ensures { outcome result line.new
         ≡ numbered (sent_numbers sides) (heard_on (sides_named sides) heard.now from accept line.old at) }
 {
-    let named = sides_named(sides);
+    let named = Sides::from(sides);
     sent_numbers(
         sides,
         option_line::hear(named, heard, from, accept, line, at),

@@ -4,14 +4,15 @@
 // of eight bytes, the first byte highest; those of SHA-1 are twenty bytes.
 #![tactic(auto)]
 
-ghost use Rattle.std.specs.Prelude.{◌≡◌, length};
-ghost use Rattle.export_password.specs.Numbers.{sha_length, block_numbers, hash_into, substitute_into};
+ghost use Rattle.std.specs.Prelude.{◌≡◌};
+ghost use Rattle.export_password.specs.Numbers.{block_numbers, hash_into, substitute_into};
 ghost use Rattle.password_des.specs.Answer.{des_token, des_substitute};
 ghost use Rattle.password_sha.specs.Answer.{sha_token};
 ghost use Rattle.octets.specs.Lent.{outcome};
+ghost use Rattle.export.specs.Numbers.{written_numbers};
 
 use export::TvWritten;
-use password_des::Block;
+use refusal::Refusal;
 
 // A token or a substitute of DES.
 #[repr(C)]
@@ -21,48 +22,27 @@ pub struct TvBlock {
     pub value: u64,
 }
 
-fn block_numbers(answer: Block) -> TvBlock
+fn block_numbers(answer: Result<u64, Refusal>) -> TvBlock
     ensures { result ≡ block_numbers answer }
 {
     match answer {
-        Block::Value(value) => TvBlock { refusal: 0, value },
-        Block::Refused(n) => TvBlock {
-            refusal: n,
+        Ok(value) => TvBlock { refusal: 0, value },
+        Err(e) => TvBlock {
+            refusal: e.number(),
             value: 0,
         },
     }
 }
 
-// Puts a token or a substitute of SHA-1 to the front of the buffer, unless it is refused by a number.
-fn put_hash(number: u8, bytes: [u8; 20], out: &mut [u8]) -> TvWritten
-    ensures { outcome result out.new ≡ hash_into (record { refusal = number; bytes = bytes }) out.old }
+// Puts a token or a substitute of SHA-1 to the front of the buffer, unless it is refused.
+fn put_hash(answer: Result<[u8; 20], Refusal>, out: &mut [u8]) -> Result<usize, Refusal>
+    ensures { outcome (written_numbers result) out.new ≡ hash_into answer out.old }
 {
-    if number != 0 {
-        return TvWritten {
-            refusal: number,
-            length: 0,
-        };
-    }
+    let bytes = answer?;
     if octets::put(&bytes, out, 0) {
-        return TvWritten {
-            refusal: 0,
-            length: 20,
-        };
+        return Ok(20);
     }
-    TvWritten {
-        refusal: refusal::NO_ROOM,
-        length: 0,
-    }
-}
-
-// A token of twenty bytes by value.
-fn token_of(bytes: &[u8]) -> [u8; 20]
-    requires { length bytes.now ≡ sha_length }
-    ensures { result ≡ bytes.now }
-{
-    let mut token = [0u8; 20];
-    octets::put(bytes, &mut token, 0);
-    token
+    Err(Refusal::NoRoom)
 }
 
 // The DES token of a name and a password. Refused by 33 and 34.
@@ -76,9 +56,7 @@ pub fn tv_des_token(name: &[u8], password: &[u8]) -> TvBlock
 pub fn tv_sha_token(name: &[u8], password: &[u8], out: &mut [u8]) -> TvWritten
     ensures { outcome result out.new ≡ hash_into (sha_token name.now password.now) out.old }
 {
-    let hash = password_sha::sha_token(name, password);
-    let bytes = hash.bytes;
-    put_hash(hash.refusal, bytes, out)
+    export::written_numbers(put_hash(password_sha::sha_token(name, password), out))
 }
 
 // The substitute that a client sends for a DES token. Refused by 33.
@@ -100,13 +78,9 @@ pub fn tv_sha_substitute(
     ensures { outcome result out.new
         ≡ substitute_into token.now name.now server_seed client_seed out.old }
 {
-    if token.len() != 20 {
-        return TvWritten {
-            refusal: refusal::BAD_PROFILE,
-            length: 0,
-        };
-    }
-    let hash = password_sha::sha_substitute(token_of(token), name, server_seed, client_seed);
-    let bytes = hash.bytes;
-    put_hash(hash.refusal, bytes, out)
+    let Ok(token) = <[u8; 20]>::try_from(token) else {
+        return export::written_numbers(Err(Refusal::BadProfile));
+    };
+    let substitute = password_sha::sha_substitute(token, name, server_seed, client_seed);
+    export::written_numbers(put_hash(substitute, out))
 }

@@ -1,18 +1,16 @@
 -- The numbers of what a printer frame says and of what the ledger answers, and the ledger that numbers name.
-use Rattle.std.specs.Prelude.{◌≡◌, ◌↔◌, ℕ, true, false, eqb, length}
+use Rattle.std.specs.Prelude.{◌≡◌, ◌↔◌, ℕ, true, false, eqb, length, Result, Ok, Err}
 use Rattle.print_frame.specs.declared.Direction.{Direction}
 use Rattle.print_frame.specs.declared.Direction.TheVariants.{Outbound, Inbound}
 use Rattle.print_frame.specs.declared.Operation.{Operation}
 use Rattle.print_frame.specs.declared.Operation.TheVariants.{Print, Clear}
 use Rattle.print_frame.specs.declared.Frame.{Frame}
-use Rattle.print_frame.specs.declared.FrameAnswer.{FrameAnswer}
-use Rattle.print_frame.specs.declared.FrameAnswer.TheVariants.{Read, Refused}
+use Rattle.refusal.specs.declared.Refusal.{Refusal}
+use Rattle.refusal.specs.Refusal.{number}
 use Rattle.print_ledger.specs.declared.Ledger.{Ledger}
 use Rattle.print_ledger.specs.declared.Receipt.{Receipt}
-use Rattle.print_ledger.specs.declared.Receipt.TheVariants.{Held, Cleared, NothingToClear, Refused as NotTaken}
+use Rattle.print_ledger.specs.declared.Receipt.TheVariants.{Held, Cleared, NothingToClear}
 use Rattle.print_ledger.specs.declared.Taken.{Taken}
-use Rattle.print_ledger.specs.declared.Completion.{Completion}
-use Rattle.print_ledger.specs.declared.Completion.TheVariants.{Written, Refused as NotWritten}
 use Rattle.print_ledger.specs.declared.Completed.{Completed}
 use Rattle.print_ledger.specs.Ledger.{print_complete}
 use Rattle.export_print.specs.declared.TvFrame.{TvFrame}
@@ -65,9 +63,9 @@ no_frame r = record {
   data_length = 0;
 }
 
-abbrev pub frame_numbers : FrameAnswer → TvFrame
-frame_numbers (Read f) = read_numbers f
-frame_numbers (Refused r) = no_frame r
+abbrev pub frame_numbers : Result Frame Refusal → TvFrame
+frame_numbers (Ok f) = read_numbers f
+frame_numbers (Err e) = no_frame (number e)
 
 abbrev pub ledger_numbers : Ledger → TvLedger
 ledger_numbers l = record { held = mark l.held }
@@ -79,12 +77,15 @@ ledger_named t = record { held = eqb t.held 1 }
 abbrev pub took : TvLedger → (refusal receipt : ℕ) → TvTaken
 took l r k = record { ledger = l; refusal = r; receipt = k }
 
+abbrev pub receipt_number : Receipt → ℕ
+receipt_number Held = 1
+receipt_number Cleared = 2
+receipt_number NothingToClear = 3
+
 -- what became of a frame, with the ledger's numbers; a refusal hands back those that were given
-abbrev pub receipt_numbers : (given ledger : TvLedger) → Receipt → TvTaken
-receipt_numbers given l Held = took l 0 1
-receipt_numbers given l Cleared = took l 0 2
-receipt_numbers given l NothingToClear = took l 0 3
-receipt_numbers given l (NotTaken r) = took given r 0
+abbrev pub receipt_numbers : (given ledger : TvLedger) → Result Receipt Refusal → TvTaken
+receipt_numbers given l (Ok r) = took l 0 (receipt_number r)
+receipt_numbers given l (Err e) = took given (number e) 0
 
 abbrev pub taken_numbers : (given : TvLedger) → Taken → TvTaken
 taken_numbers given t = receipt_numbers given (ledger_numbers t.ledger) t.receipt
@@ -93,9 +94,9 @@ abbrev pub completed : TvLedger → (refusal length : ℕ) → TvCompleted
 completed l r n = record { ledger = l; refusal = r; length = n }
 
 -- whether the record was written, with the ledger's numbers; a refusal hands back those that were given
-abbrev pub completion_numbers : (given ledger : TvLedger) → Completion → TvCompleted
-completion_numbers given l Written = completed l 0 (length print_complete)
-completion_numbers given l (NotWritten r) = completed given r 0
+abbrev pub completion_numbers : (given ledger : TvLedger) → Result (Unit {0}) Refusal → TvCompleted
+completion_numbers given l (Ok _) = completed l 0 (length print_complete)
+completion_numbers given l (Err e) = completed given (number e) 0
 
 abbrev pub completed_numbers : (given : TvLedger) → Completed → TvCompleted
 completed_numbers given c = completion_numbers given (ledger_numbers c.ledger) c.completion

@@ -5,7 +5,7 @@
 #![tactic(auto)]
 
 ghost use Rattle.std.specs.Prelude.{◌≡◌};
-ghost use Rattle.export_print.specs.Numbers.{direction_number, operation_number, read_numbers, frame_numbers, ledger_numbers, ledger_named};
+ghost use Rattle.export_print.specs.Numbers.{read_numbers, frame_numbers, ledger_numbers, ledger_named, receipt_number};
 ghost use Rattle.export_print.specs.Numbers.{taken_numbers, completed_numbers, LedgerNamed};
 ghost use Rattle.export.specs.Numbers.{numbered};
 ghost use Rattle.print_frame.specs.Frame.{frame_of};
@@ -13,14 +13,15 @@ ghost use Rattle.print_ledger.specs.Ledger.{fresh, take_frame, complete_into};
 ghost use Rattle.octets.specs.Lent.{outcome};
 
 use export::mark;
-use print_frame::{Direction, Frame, FrameAnswer, Operation};
-use print_ledger::{Completed, Completion, Ledger, Receipt, Taken};
+use print_frame::Frame;
+use print_ledger::{Completed, Ledger, Receipt, Taken};
+use refusal::Refusal;
 
 // What a frame says. `direction` is 1 for outbound, from the server, and 2 for inbound, from the client. `operation` is
 // 1 for print or print complete and 2 for clear. The six marks are 1 or 0. Diagnostic bytes and print data are given by
 // their places in the frame.
 #[repr(C)]
-#[derive(Clone, Copy)]
+#[derive(Clone, Copy, Default)]
 pub struct TvFrame {
     pub refusal: u8,
     pub direction: u8,
@@ -63,68 +64,34 @@ pub struct TvCompleted {
     pub length: usize,
 }
 
-fn direction_number(direction: Direction) -> u8
-    ensures { result ≡ direction_number direction }
-{
-    match direction {
-        Direction::Outbound => 1,
-        Direction::Inbound => 2,
-    }
-}
-
-fn operation_number(operation: Operation) -> u8
-    ensures { result ≡ operation_number operation }
-{
-    match operation {
-        Operation::Print => 1,
-        Operation::Clear => 2,
-    }
-}
-
 fn read_numbers(frame: Frame) -> TvFrame
     ensures { result ≡ read_numbers frame }
 {
-    let direction = frame.direction;
-    let operation = frame.operation;
-    let flags = frame.flags;
-    let diagnostics = frame.diagnostics;
-    let data = frame.print_data;
     TvFrame {
         refusal: 0,
-        direction: direction_number(direction),
-        operation: operation_number(operation),
+        direction: frame.direction as u8,
+        operation: frame.operation as u8,
         diagnostics_included: mark(frame.diagnostics_included),
-        error: mark(flags.error),
-        intervention_required: mark(flags.intervention_required),
-        ready: mark(flags.ready),
-        first_of_chain: mark(flags.first_of_chain),
-        last_of_chain: mark(flags.last_of_chain),
-        diagnostics_at: diagnostics.place,
-        diagnostics_length: diagnostics.length,
-        data_at: data.place,
-        data_length: data.length,
+        error: mark(frame.flags.error),
+        intervention_required: mark(frame.flags.intervention_required),
+        ready: mark(frame.flags.ready),
+        first_of_chain: mark(frame.flags.first_of_chain),
+        last_of_chain: mark(frame.flags.last_of_chain),
+        diagnostics_at: frame.diagnostics.place,
+        diagnostics_length: frame.diagnostics.length,
+        data_at: frame.print_data.place,
+        data_length: frame.print_data.length,
     }
 }
 
-fn frame_numbers(answer: FrameAnswer) -> TvFrame
+fn frame_numbers(answer: Result<Frame, Refusal>) -> TvFrame
     ensures { result ≡ frame_numbers answer }
 {
     match answer {
-        FrameAnswer::Read(frame) => read_numbers(frame),
-        FrameAnswer::Refused(n) => TvFrame {
-            refusal: n,
-            direction: 0,
-            operation: 0,
-            diagnostics_included: 0,
-            error: 0,
-            intervention_required: 0,
-            ready: 0,
-            first_of_chain: 0,
-            last_of_chain: 0,
-            diagnostics_at: 0,
-            diagnostics_length: 0,
-            data_at: 0,
-            data_length: 0,
+        Ok(frame) => read_numbers(frame),
+        Err(e) => TvFrame {
+            refusal: e.number(),
+            ..TvFrame::default()
         },
     }
 }
@@ -137,6 +104,7 @@ fn ledger_numbers(ledger: Ledger) -> TvLedger
     }
 }
 
+#[tactic(auto, unfolding(crate::specs::Numbers::ledger_named))]
 fn ledger_named(ledger: TvLedger) -> Ledger
     ensures { result ≡ ledger_named ledger }
 {
@@ -145,32 +113,29 @@ fn ledger_named(ledger: TvLedger) -> Ledger
     }
 }
 
+fn receipt_number(receipt: Receipt) -> u8
+    ensures { result ≡ receipt_number receipt }
+{
+    match receipt {
+        Receipt::Held => 1,
+        Receipt::Cleared => 2,
+        Receipt::NothingToClear => 3,
+    }
+}
+
 // What became of a frame; `given` is the ledger that the caller gave.
 fn taken_numbers(given: TvLedger, taken: Taken) -> TvTaken
     ensures { result ≡ taken_numbers given taken }
 {
-    let state = taken.ledger;
-    let receipt = taken.receipt;
-    let ledger = ledger_numbers(state);
-    match receipt {
-        Receipt::Held => TvTaken {
-            ledger,
+    match taken.receipt {
+        Ok(receipt) => TvTaken {
+            ledger: ledger_numbers(taken.ledger),
             refusal: 0,
-            receipt: 1,
+            receipt: receipt_number(receipt),
         },
-        Receipt::Cleared => TvTaken {
-            ledger,
-            refusal: 0,
-            receipt: 2,
-        },
-        Receipt::NothingToClear => TvTaken {
-            ledger,
-            refusal: 0,
-            receipt: 3,
-        },
-        Receipt::Refused(n) => TvTaken {
+        Err(e) => TvTaken {
             ledger: given,
-            refusal: n,
+            refusal: e.number(),
             receipt: 0,
         },
     }
@@ -179,18 +144,15 @@ fn taken_numbers(given: TvLedger, taken: Taken) -> TvTaken
 fn completed_numbers(given: TvLedger, completed: Completed) -> TvCompleted
     ensures { result ≡ completed_numbers given completed }
 {
-    let state = completed.ledger;
-    let completion = completed.completion;
-    let ledger = ledger_numbers(state);
-    match completion {
-        Completion::Written => TvCompleted {
-            ledger,
+    match completed.completion {
+        Ok(()) => TvCompleted {
+            ledger: ledger_numbers(completed.ledger),
             refusal: 0,
             length: 10,
         },
-        Completion::Refused(n) => TvCompleted {
+        Err(e) => TvCompleted {
             ledger: given,
-            refusal: n,
+            refusal: e.number(),
             length: 0,
         },
     }

@@ -4,7 +4,7 @@
 #![tactic(auto)]
 
 ghost use Rattle.std.specs.Prelude.{◌≡◌};
-ghost use Rattle.export_profile.specs.Numbers.{table_numbers, found_numbers};
+ghost use Rattle.export_profile.specs.Numbers.{table_numbers, no_profile, found_numbers};
 ghost use Rattle.export.specs.Numbers.{numbered, written_numbers};
 ghost use Rattle.names.specs.Name.{raised};
 ghost use Rattle.profile.specs.Table.{table_of};
@@ -14,7 +14,8 @@ ghost use Rattle.profile_maker.specs.Promise.{make_into};
 ghost use Rattle.octets.specs.Lent.{outcome};
 
 use export::{TvWritten, mark};
-use profile_table::{Found, TableCheck};
+use profile_table::Entry;
+use refusal::Refusal;
 
 // How many profiles a table has.
 #[repr(C)]
@@ -36,46 +37,46 @@ pub struct TvFound {
     pub at: usize,
 }
 
-fn table_numbers(answer: TableCheck) -> TvTable
+fn table_numbers(answer: Result<usize, Refusal>) -> TvTable
     ensures { result ≡ table_numbers answer }
 {
     match answer {
-        TableCheck::Profiles(profiles) => TvTable {
+        Ok(profiles) => TvTable {
             refusal: 0,
             profiles,
         },
-        TableCheck::Refused(n) => TvTable {
-            refusal: n,
+        Err(e) => TvTable {
+            refusal: e.number(),
             profiles: 0,
         },
     }
 }
 
-fn found_numbers(answer: Found) -> TvFound
+fn no_profile(refusal: u8) -> TvFound
+    ensures { result ≡ no_profile refusal }
+{
+    TvFound {
+        refusal,
+        present: 0,
+        enabled: 0,
+        des_allowed: 0,
+        at: 0,
+    }
+}
+
+fn found_numbers(answer: Result<Option<Entry>, Refusal>) -> TvFound
     ensures { result ≡ found_numbers answer }
 {
     match answer {
-        Found::Present(entry) => TvFound {
+        Ok(Some(entry)) => TvFound {
             refusal: 0,
             present: 1,
             enabled: mark(entry.enabled),
             des_allowed: mark(entry.des_allowed),
             at: entry.at,
         },
-        Found::Absent => TvFound {
-            refusal: 0,
-            present: 0,
-            enabled: 0,
-            des_allowed: 0,
-            at: 0,
-        },
-        Found::Refused(n) => TvFound {
-            refusal: n,
-            present: 0,
-            enabled: 0,
-            des_allowed: 0,
-            at: 0,
-        },
+        Ok(None) => no_profile(0),
+        Err(e) => no_profile(e.number()),
     }
 }
 

@@ -8,6 +8,9 @@ use native.Mathlib.Omega.{arith}
 use lib.Dec.{eqb, ltb}
 use lib.ListN.{length}
 use borrow.Author.Tests.{eqb-true, lt-ltb, ne_eqb, ltb-true}
+use Rattle.std.specs.Prelude.{Option, None, Some}
+use Rattle.refusal.specs.declared.Refusal.TheVariants.{NoRoom}
+use Rattle.telnet.specs.declared.Verb.{Verb}
 use Rattle.telnet.specs.declared.Verb.TheVariants.{Will, Wont, Do, Dont}
 use Rattle.telnet_fragments.specs.declared.Fault.{Fault}
 use Rattle.telnet_fragments.specs.declared.Fault.TheVariants.{Undoubled, TooLong, BadCommand}
@@ -18,12 +21,11 @@ use Rattle.telnet_fragments.specs.declared.Taken.{Taken}
 use Rattle.telnet_fragments.specs.Call.{has_failed}
 use Rattle.telnet_fragments.specs.Promise.{fault_number, standing, mode_of, is_idle, HandsBack, Fed}
 use Rattle.telnet_fragments.specs.Chain.{Made}
-use Rattle.telnet_fragments.proofs.Closing.{fault-above}
 use Rattle.telnet_fragments.proofs.Ending.{numbers-given}
 use Rattle.export.specs.Numbers.{verb_named}
 use Rattle.export.proofs.KindNames.{no-verb}
 use Rattle.export_reader.specs.declared.TvReader.{TvReader}
-use Rattle.export_reader.specs.Numbers.{reader, stage_numbers, reader_numbers, choosing_named, fault_named, stage_named, reader_named, handed_back, ReadersNamed}
+use Rattle.export_reader.specs.Numbers.{stage_numbers, reader_numbers, choosing_named, fault_named, stage_named, reader_named, handed_back, ReadersNamed}
 use Rattle.octets.proofs.Choice.{choice, never}
 
 stage-back : (s : Stage) (n : ℕ) → stage_named (stage_numbers s n).stage (stage_numbers s n).code ≡ s
@@ -53,49 +55,32 @@ count-back (Failed f) n = refl
 back : (r : Reader) → reader_named (reader_numbers r) ≡ r
 back r = rw (stage-back r.stage r.count, count-back r.stage r.count)
 
--- the number of a stage's fault, 0 where it has none
-abbrev fault_in : Stage → ℕ
-fault_in Data = 0
-fault_in IacSeen = 0
-fault_in (Choosing v) = 0
-fault_in Opening = 0
-fault_in (Payload o) = 0
-fault_in (Closing o) = 0
-fault_in (Failed f) = fault_number f
-
 -- the numbers of a fault, as a test of a stage
 abbrev Faulty : (s c : ℕ) → Fault → Stage → Type 0
 Faulty s c f t = t ≡ Failed f → (s ≡ 6) × (c ≡ fault_number f)
 
-no-fault : {s c : ℕ} (f : Fault) (t : Stage) → fault_in t ≡ 0 → Faulty s c f t
-no-fault f t e is = absurd (omega (arith, e, ap fault_in is, fault-above f))
-
 is-fault : (s c : ℕ) (f g : Fault) → s ≡ 6 → c ≡ fault_number g → Faulty s c f (Failed g)
-is-fault s c f g e k is = (e, k ∙ ap fault_in is)
+is-fault s c f g e k is = let same : g ≡ f = cc in (e, k ∙ ap fault_number same)
 
-verb-no-fault : (c : ℕ) → fault_in (choosing_named (verb_named c)) ≡ 0
-unfolding verb_named
-verb-no-fault c =
-    choice (λ v. fault_in (choosing_named v) ≡ 0) (eqb c 251) (λ _. refl)
-    (λ _. choice (λ v. fault_in (choosing_named v) ≡ 0) (eqb c 252) (λ _. refl)
-    (λ _. choice (λ v. fault_in (choosing_named v) ≡ 0) (eqb c 253) (λ _. refl)
-    (λ _. choice (λ v. fault_in (choosing_named v) ≡ 0) (eqb c 254) (λ _. refl) (λ _. refl))))
+verb-no-fault : (s c : ℕ) (f : Fault) (v : Option Verb) → Faulty s c f (choosing_named v)
+verb-no-fault s c f None is = cc
+verb-no-fault s c f (Some v) is = cc
 
 named-fault : (s c : ℕ) (f : Fault) → Faulty s c f (stage_named s c)
 unfolding stage_named fault_named
 named-fault s c f =
-    choice (Faulty s c f) (eqb s 1) (λ _. no-fault f IacSeen refl)
-    (λ _. choice (Faulty s c f) (eqb s 2) (λ _. no-fault f (choosing_named (verb_named c)) (verb-no-fault c))
-    (λ _. choice (Faulty s c f) (eqb s 3) (λ _. no-fault f Opening refl)
-    (λ _. choice (Faulty s c f) (eqb s 4) (λ _. no-fault f (Payload c) refl)
-    (λ _. choice (Faulty s c f) (eqb s 5) (λ _. no-fault f (Closing c) refl)
+    choice (Faulty s c f) (eqb s 1) (λ _ is. cc)
+    (λ _. choice (Faulty s c f) (eqb s 2) (λ _. verb-no-fault s c f (verb_named c))
+    (λ _. choice (Faulty s c f) (eqb s 3) (λ _ is. cc)
+    (λ _. choice (Faulty s c f) (eqb s 4) (λ _ is. cc)
+    (λ _. choice (Faulty s c f) (eqb s 5) (λ _ is. cc)
     (λ _. choice (Faulty s c f) (eqb s 6)
     (λ e.
     let six = eqb-true s 6 e in
     choice (Faulty s c f) (eqb c 2) (λ k. is-fault s c f Undoubled six (eqb-true c 2 k))
     (λ _. choice (Faulty s c f) (eqb c 3) (λ k. is-fault s c f TooLong six (eqb-true c 3 k))
-    (λ _. choice (Faulty s c f) (eqb c 6) (λ k. is-fault s c f BadCommand six (eqb-true c 6 k)) (λ _. no-fault f Data refl))))
-    (λ _. no-fault f Data refl))))))
+    (λ _. choice (Faulty s c f) (eqb c 6) (λ k. is-fault s c f BadCommand six (eqb-true c 6 k)) (λ _ is. cc))))
+    (λ _ is. cc))))))
 
 fault-named : (s c : ℕ) (f : Fault) → (s ≡ 6) × (c ≡ fault_number f) → stage_named s c ≡ Failed f
 unfolding stage_named fault_named
@@ -113,9 +98,9 @@ no-fault-named : (c : ℕ) → ((f : Fault) → c ≡ fault_number f → ⊥) �
 unfolding stage_named fault_named
 no-fault-named c h = rw (ne_eqb c 2 (h Undoubled), ne_eqb c 3 (h TooLong), ne_eqb c 6 (h BadCommand))
 
-pub readers-named : ReadersNamed
+pub named_readers : ReadersNamed
 unfolding stage_named
-readers-named = record {
+named_readers = record {
   back = back;
   plain = λ c. (refl, refl, refl);
   faults = λ s c f. (named-fault s c f, fault-named s c f);
@@ -143,11 +128,11 @@ module _ (given : TvReader) (kept bs room : List ℕ) (t : Taken) (keeps left : 
   made : Made
   made = record { reader = reader_named given; kept = kept; fragment = bs; room = room; answer = t; keeps = keeps; left = left }
 
-  pub refused-back : t.number ≡ 4 → given ≡ handed_back (is_idle (mode_of (reader_named given) kept) room) given t.reader
+  pub refused-back : t.refusal ≡ Some NoRoom → given ≡ handed_back (is_idle (mode_of (reader_named given) kept) room) given t.reader
   unfolding is_idle made
   refused-back e = rw (lt-ltb (length room) 2048 ((numbers-given made p).short.0 e))
 
-  pub fed-back : (t.number ≡ 4 → ⊥) → reader_numbers t.reader ≡ handed_back (is_idle (mode_of (reader_named given) kept) room) given t.reader
+  pub fed-back : (t.refusal ≡ Some NoRoom → ⊥) → reader_numbers t.reader ≡ handed_back (is_idle (mode_of (reader_named given) kept) room) given t.reader
   unfolding is_idle made
   fed-back other = go (ltb (length room) 2048) (has_failed (mode_of (reader_named given) kept)) refl refl p.1
     where

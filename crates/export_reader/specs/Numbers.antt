@@ -1,8 +1,11 @@
 -- The numbers of a reader that takes a stream by fragments and of what a call of it answers, and the reader that numbers
 -- name.
-use Rattle.std.specs.Prelude.{◌≡◌, ◌↔◌, ℕ, ◌<◌, Bool, List, eqb, if◌then◌else◌}
+use Rattle.std.specs.Prelude.{◌≡◌, ◌↔◌, ℕ, ◌<◌, Bool, List, eqb, if◌then◌else◌, Option, None, Some, Result, Ok, Err}
+use Rattle.refusal.specs.declared.Refusal.{Refusal}
+use Rattle.refusal.specs.Refusal.{number}
+use Rattle.refusal.specs.RefusedBy.{number_or_0}
+use Rattle.telnet.specs.declared.Verb.{Verb}
 use Rattle.telnet.specs.declared.Kind.{Kind}
-use Rattle.telnet.specs.declared.Kind.TheVariants.{Data as NoEvent, Command, Negotiation, Subnegotiation}
 use Rattle.telnet.specs.Event.{code}
 use Rattle.telnet_fragments.specs.declared.Fault.{Fault}
 use Rattle.telnet_fragments.specs.declared.Fault.TheVariants.{Undoubled, TooLong, BadCommand}
@@ -10,12 +13,8 @@ use Rattle.telnet_fragments.specs.declared.Stage.{Stage}
 use Rattle.telnet_fragments.specs.declared.Stage.TheVariants.{Data, IacSeen, Choosing, Opening, Payload, Closing, Failed}
 use Rattle.telnet_fragments.specs.declared.Reader.{Reader}
 use Rattle.telnet_fragments.specs.declared.Taken.{Taken}
-use Rattle.telnet_fragments.specs.declared.Closed.{Closed}
-use Rattle.telnet_fragments.specs.declared.Closed.TheVariants.{End, Number}
 use Rattle.telnet_fragments.specs.Promise.{fault_number, mode_of, is_idle, Fed, ClosedAs}
 use Rattle.export.specs.declared.KindNumbers.{KindNumbers}
-use Rattle.export.specs.declared.NamedVerb.{NamedVerb}
-use Rattle.export.specs.declared.NamedVerb.TheVariants.{Nothing as NoVerb, Verb as IsVerb}
 use Rattle.export.specs.Numbers.{three, kind_numbers, verb_named, NoCode}
 use Rattle.export_reader.specs.declared.TvReader.{TvReader}
 use Rattle.export_reader.specs.declared.TvFed.{TvFed}
@@ -37,9 +36,9 @@ abbrev pub reader_numbers : Reader → TvReader
 reader_numbers r = stage_numbers r.stage r.count
 
 -- the stage that two numbers name; any others are read as data
-abbrev pub choosing_named : NamedVerb → Stage
-choosing_named NoVerb = Data
-choosing_named (IsVerb v) = Choosing v
+abbrev pub choosing_named : Option Verb → Stage
+choosing_named None = Data
+choosing_named (Some v) = Choosing v
 
 unfoldable pub fault_named : ℕ → Stage
 fault_named c =
@@ -62,17 +61,15 @@ abbrev pub reader_named : TvReader → Reader
 reader_named r = record { stage = stage_named r.stage r.code; count = r.count }
 
 -- the numbers of the event that a call ended at; all 0 where there is none
-abbrev pub event_numbers : Kind → KindNumbers
-event_numbers NoEvent = three 0 0 0
-event_numbers (Command c) = kind_numbers (Command c)
-event_numbers (Negotiation v o) = kind_numbers (Negotiation v o)
-event_numbers (Subnegotiation o) = kind_numbers (Subnegotiation o)
+abbrev pub event_numbers : Option Kind → KindNumbers
+event_numbers None = three 0 0 0
+event_numbers (Some k) = kind_numbers k
 
 -- the numbers of an answer, with the reader's
 abbrev pub fed_numbers : TvReader → Taken → TvFed
 fed_numbers r t = record {
   reader = r;
-  number = t.number;
+  number = number_or_0 t.refusal;
   what = (event_numbers t.kind).what;
   code = (event_numbers t.kind).code;
   option = (event_numbers t.kind).option;
@@ -92,13 +89,13 @@ FedByNumbers given kept bs room r keeps left =
     × (r ≡ fed_numbers (handed_back (is_idle (mode_of (reader_named given) kept) room) given t.reader) t)
 
 -- 0 for the end
-abbrev pub closed_number : Closed → ℕ
-closed_number End = 0
-closed_number (Number n) = n
+abbrev pub closed_number : Result (Unit {0}) Refusal → ℕ
+closed_number (Ok u) = 0
+closed_number (Err e) = number e
 
 -- Closing by numbers.
 abbrev pub ClosedByNumber : TvReader → ℕ → Type 0
-ClosedByNumber given n = (c : Closed) × ClosedAs (reader_named given) c × (n ≡ closed_number c)
+ClosedByNumber given n = (c : Result (Unit {0}) Refusal) × ClosedAs (reader_named given) c × (n ≡ closed_number c)
 
 -- Which reader numbers name: the numbers of a reader name it; a code that a stage does not have is not looked at; a
 -- fault is named by stage 6 with its number, and not otherwise; and all other numbers are read as data.

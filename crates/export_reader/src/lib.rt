@@ -9,9 +9,17 @@ ghost use Rattle.export.specs.Numbers.{verb_named};
 ghost use Rattle.export_reader.specs.Numbers.{reader, reader_numbers, choosing_named, fault_named, stage_named, reader_named};
 ghost use Rattle.export_reader.specs.Numbers.{event_numbers, fed_numbers, FedByNumbers, ClosedByNumber, ReadersNamed};
 
-use export::{KindNumbers, NamedVerb};
+use export::KindNumbers;
+use refusal::Refusal;
 use telnet::{Kind, PAYLOAD_LIMIT};
-use telnet_fragments::{Closed, Fault, Reader, Stage, Taken};
+use telnet_fragments::{Fault, Reader, Stage, Taken};
+
+// The numbers of the faults.
+const UNDOUBLED: u8 = Refusal::Undoubled as u8;
+
+const TOO_LONG: u8 = Refusal::PayloadTooLong as u8;
+
+const BAD_COMMAND: u8 = Refusal::BadCommand as u8;
 
 // A reader. `stage` is 0 in data, 1 after a 255, 2 after an option command's code, 3 after 255 250, 4 in a payload, 5
 // after a 255 in a payload, and 6 after a fault. `code` is the option command's code at 2, the option byte at 4 and 5,
@@ -48,42 +56,42 @@ fn with_count(stage: u8, code: u8, count: usize) -> TvReader
     TvReader { stage, code, count }
 }
 
-fn reader_numbers(reader: Reader) -> TvReader
-    ensures { result ≡ reader_numbers reader }
-{
-    let stage = reader.stage;
-    let count = reader.count;
-    match stage {
-        Stage::Data => with_count(0, 0, count),
-        Stage::IacSeen => with_count(1, 0, count),
-        Stage::Choosing(verb) => with_count(2, export::code_of(verb), count),
-        Stage::Opening => with_count(3, 0, count),
-        Stage::Payload(option) => with_count(4, option, count),
-        Stage::Closing(option) => with_count(5, option, count),
-        Stage::Failed(_) => with_count(6, telnet_stage::number_of(stage), count),
+impl From<Reader> for TvReader {
+    ghost from_gives = { λ r n. n ≡ reader_numbers r };
+
+    fn from(reader: Reader) -> TvReader {
+        let count = reader.count;
+        match reader.stage {
+            Stage::Data => with_count(0, 0, count),
+            Stage::IacSeen => with_count(1, 0, count),
+            Stage::Choosing(verb) => with_count(2, verb.code(), count),
+            Stage::Opening => with_count(3, 0, count),
+            Stage::Payload(option) => with_count(4, option, count),
+            Stage::Closing(option) => with_count(5, option, count),
+            Stage::Failed(fault) => with_count(6, Refusal::from(fault).number(), count),
+        }
     }
 }
 
 fn choosing_named(code: u8) -> Stage
     ensures { result ≡ choosing_named (verb_named code) }
 {
-    match export::verb_named(code) {
-        NamedVerb::Verb(verb) => Stage::Choosing(verb),
-        NamedVerb::Nothing => Stage::Data,
-    }
+    export::verb_named(code).map_or(Stage::Data, Stage::Choosing)
 }
 
+#[tactic(auto, unfolding(crate::specs::Numbers::fault_named))]
 fn fault_named(code: u8) -> Stage
     ensures { result ≡ fault_named code }
 {
     match code {
-        refusal::UNDOUBLED => Stage::Failed(Fault::Undoubled),
-        refusal::PAYLOAD_TOO_LONG => Stage::Failed(Fault::TooLong),
-        refusal::BAD_COMMAND => Stage::Failed(Fault::BadCommand),
+        UNDOUBLED => Stage::Failed(Fault::Undoubled),
+        TOO_LONG => Stage::Failed(Fault::TooLong),
+        BAD_COMMAND => Stage::Failed(Fault::BadCommand),
         _ => Stage::Data,
     }
 }
 
+#[tactic(auto, unfolding(crate::specs::Numbers::stage_named))]
 fn stage_named(stage: u8, code: u8) -> Stage
     ensures { result ≡ stage_named stage code }
 {
@@ -98,38 +106,35 @@ fn stage_named(stage: u8, code: u8) -> Stage
     }
 }
 
-fn reader_named(reader: TvReader) -> Reader
-    ensures { result ≡ reader_named reader }
-{
-    Reader {
-        stage: stage_named(reader.stage, reader.code),
-        count: reader.count,
+impl From<TvReader> for Reader {
+    ghost from_gives = { λ n r. r ≡ reader_named n };
+
+    fn from(reader: TvReader) -> Reader {
+        Reader {
+            stage: stage_named(reader.stage, reader.code),
+            count: reader.count,
+        }
     }
 }
 
-fn event_numbers(kind: Kind) -> KindNumbers
+fn event_numbers(kind: Option<Kind>) -> KindNumbers
     ensures { result ≡ event_numbers kind }
 {
-    match kind {
-        Kind::Data => KindNumbers {
-            what: 0,
-            code: 0,
-            option: 0,
-        },
-        Kind::Command(c) => export::kind_numbers(Kind::Command(c)),
-        Kind::Negotiation(verb, option) => export::kind_numbers(Kind::Negotiation(verb, option)),
-        Kind::Subnegotiation(option) => export::kind_numbers(Kind::Subnegotiation(option)),
-    }
+    let none = KindNumbers {
+        what: 0,
+        code: 0,
+        option: 0,
+    };
+    kind.map_or(none, export::kind_numbers)
 }
 
 fn fed_numbers(reader: TvReader, fed: Taken) -> TvFed
     ensures { result ≡ fed_numbers reader fed }
 {
-    let kind = fed.kind;
-    let event = event_numbers(kind);
+    let event = event_numbers(fed.kind);
     TvFed {
         reader,
-        number: fed.number,
+        number: refusal::number_or_0(fed.refusal),
         what: event.what,
         code: event.code,
         option: event.option,
@@ -140,6 +145,7 @@ fn fed_numbers(reader: TvReader, fed: Taken) -> TvFed
 }
 
 // Which reader numbers name.
+#[tactic(auto, using(crate::proofs::Named::named_readers))]
 pub fn readers_named()
     ensures { ReadersNamed }
 {}
@@ -148,14 +154,14 @@ pub fn readers_named()
 pub fn tv_reader_fresh() -> TvReader
     ensures { result ≡ reader_numbers fresh_reader }
 {
-    reader_numbers(telnet_feed::fresh())
+    telnet_feed::fresh().into()
 }
 
 // A reader begun anew, whatever it was.
 pub fn tv_reader_reset(reader: TvReader) -> TvReader
     ensures { result ≡ reader_numbers fresh_reader }
 {
-    reader_numbers(telnet_feed::reset(reader_named(reader)))
+    telnet_feed::reset(reader.into()).into()
 }
 
 // Takes a fragment. The number 4 is a refusal, for room under 2,048 bytes; 2, 3 and 6 are none: the data before the
@@ -168,19 +174,19 @@ pub fn tv_reader_feed(
 ) -> TvFed
     ensures { FedByNumbers reader kept.old fragment.now room.old result kept.new room.new }
 {
-    let fed = telnet_feed::feed(reader_named(reader), kept, fragment, room);
-    if fed.number == refusal::NO_ROOM {
+    let fed = telnet_feed::feed(reader.into(), kept, fragment, room);
+    if fed.refusal == Some(Refusal::NoRoom) {
         return fed_numbers(reader, fed);
     }
-    fed_numbers(reader_numbers(fed.reader), fed)
+    fed_numbers(fed.reader.into(), fed)
 }
 
 // The end of the stream: 0 where the reader is at rest, 1 where it waits for more, and the number of its fault.
 pub fn tv_reader_close(reader: TvReader) -> u8
     ensures { ClosedByNumber reader result }
 {
-    match telnet_feed::close(reader_named(reader)) {
-        Closed::End => 0,
-        Closed::Number(n) => n,
+    match telnet_feed::close(reader.into()) {
+        Ok(()) => 0,
+        Err(e) => e.number(),
     }
 }

@@ -1,16 +1,14 @@
 -- The numbers of the verdicts, of the reasons and of what is answered with them, and the verdict that a number names.
-use Rattle.std.specs.Prelude.{◌≡◌, ◌↔◌, ℕ, ◌/◌, eqb, if◌then◌else◌}
+use Rattle.std.specs.Prelude.{◌≡◌, ◌↔◌, ℕ, ◌/◌, eqb, if◌then◌else◌, Result, Ok, Err}
+use Rattle.refusal.specs.declared.Refusal.{Refusal}
+use Rattle.refusal.specs.Refusal.{number}
 use Rattle.signon.specs.declared.Verdict.{Verdict}
 use Rattle.signon.specs.declared.Verdict.TheVariants.{Panel, NotKnown, Disabled, Failed, Grant}
 use Rattle.signon.specs.declared.Reason.{Reason}
 use Rattle.signon.specs.declared.Reason.TheVariants.{PanelAskedFor, NoUser, BadName, NotInTheTable, Disabled as NotEnabled, SeedVariableMissing}
 use Rattle.signon.specs.declared.Reason.TheVariants.{SubstituteMissing, SeedLength, SubstituteLength, DesNotAllowed}
 use Rattle.signon.specs.declared.Reason.TheVariants.{ClearPasswordMalformed, TokenDiffers, Granted}
-use Rattle.signon.specs.declared.Explained.{Explained}
-use Rattle.signon.specs.declared.Explained.TheVariants.{Because, Refused as NotExplained}
 use Rattle.signon.specs.Reason.{verdict_for}
-use Rattle.signon.specs.declared.Answer.{Answer}
-use Rattle.signon.specs.declared.Answer.TheVariants.{Given, Refused}
 use Rattle.export_signon.specs.declared.TvVerdict.{TvVerdict}
 use Rattle.export_signon.specs.declared.TvExplained.{TvExplained}
 
@@ -31,9 +29,9 @@ verdict_named n =
     if eqb n 5 then Grant else
     Failed
 
-abbrev pub answer_numbers : Answer → TvVerdict
-answer_numbers (Given v) = record { refusal = 0; verdict = verdict_number v }
-answer_numbers (Refused r) = record { refusal = r; verdict = 0 }
+abbrev pub answer_numbers : Result Verdict Refusal → TvVerdict
+answer_numbers (Ok v) = record { refusal = 0; verdict = verdict_number v }
+answer_numbers (Err e) = record { refusal = number e; verdict = 0 }
 
 -- Which verdict a number names: GRANT is 5 and no other number, and a number that is none of 1, 2, 3 and 5 is 0004; and
 -- the number of a verdict names it.
@@ -61,9 +59,9 @@ reason_number ClearPasswordMalformed = 48
 reason_number TokenDiffers = 49
 reason_number Granted = 50
 
-abbrev pub explained_numbers : Explained → TvExplained
-explained_numbers (Because r) = record { refusal = 0; reason = reason_number r }
-explained_numbers (NotExplained n) = record { refusal = n; reason = 0 }
+abbrev pub explained_numbers : Result Reason Refusal → TvExplained
+explained_numbers (Ok r) = record { refusal = 0; reason = reason_number r }
+explained_numbers (Err e) = record { refusal = number e; reason = 0 }
 
 -- The tens of a reason's number are the number of its verdict; and no two reasons have the same.
 pub record ReasonNumbered : Type 0 where

@@ -4,8 +4,8 @@
 #![tactic(auto)]
 
 ghost use Rattle.std.specs.Prelude.{◌≡◌};
-ghost use Rattle.export_signon.specs.Numbers.{verdict_number, verdict_named, answer_numbers, VerdictNamed};
-ghost use Rattle.export_signon.specs.Numbers.{reason_number, explained_numbers, ReasonNumbered};
+ghost use Rattle.export_signon.specs.Numbers.{verdict_named, answer_numbers, VerdictNamed};
+ghost use Rattle.export_signon.specs.Numbers.{explained_numbers, ReasonNumbered};
 ghost use Rattle.export.specs.Numbers.{numbered, written_numbers};
 ghost use Rattle.signon.specs.Verdict.{answer_of};
 ghost use Rattle.signon.specs.Reason.{explain_of};
@@ -13,7 +13,8 @@ ghost use Rattle.startup_record.specs.Promise.{respond_into};
 ghost use Rattle.octets.specs.Lent.{outcome};
 
 use export::TvWritten;
-use signon::{Answer, Explained, Reason, Verdict};
+use refusal::Refusal;
+use signon::{Reason, Verdict};
 
 // A verdict: 1 PANEL, 2 for 0002, 3 for 0003, 4 for 0004, 5 GRANT.
 #[repr(C)]
@@ -23,18 +24,7 @@ pub struct TvVerdict {
     pub verdict: u8,
 }
 
-fn verdict_number(verdict: Verdict) -> u8
-    ensures { result ≡ verdict_number verdict }
-{
-    match verdict {
-        Verdict::Panel => 1,
-        Verdict::NotKnown => 2,
-        Verdict::Disabled => 3,
-        Verdict::Failed => 4,
-        Verdict::Grant => 5,
-    }
-}
-
+#[tactic(auto, unfolding(crate::specs::Numbers::verdict_named))]
 fn verdict_named(number: u8) -> Verdict
     ensures { result ≡ verdict_named number }
 {
@@ -47,18 +37,20 @@ fn verdict_named(number: u8) -> Verdict
     }
 }
 
-fn answer_numbers(answer: Answer) -> TvVerdict
-    ensures { result ≡ answer_numbers answer }
-{
-    match answer {
-        Answer::Given(verdict) => TvVerdict {
-            refusal: 0,
-            verdict: verdict_number(verdict),
-        },
-        Answer::Refused(n) => TvVerdict {
-            refusal: n,
-            verdict: 0,
-        },
+impl From<Result<Verdict, Refusal>> for TvVerdict {
+    ghost from_gives = { λ answer numbers. numbers ≡ answer_numbers answer };
+
+    fn from(answer: Result<Verdict, Refusal>) -> TvVerdict {
+        match answer {
+            Ok(verdict) => TvVerdict {
+                refusal: 0,
+                verdict: verdict as u8,
+            },
+            Err(e) => TvVerdict {
+                refusal: e.number(),
+                verdict: 0,
+            },
+        }
     }
 }
 
@@ -72,7 +64,7 @@ pub fn verdicts_named()
 pub fn tv_verdict(server_seed: &[u8], table: &[u8], payload: &[u8]) -> TvVerdict
     ensures { result ≡ answer_numbers (answer_of server_seed.now table.now payload.now) }
 {
-    answer_numbers(signon_verdict::verdict(server_seed, table, payload))
+    signon_verdict::verdict(server_seed, table, payload).into()
 }
 
 // A reason: the tens are the number of its verdict.
@@ -83,38 +75,20 @@ pub struct TvExplained {
     pub reason: u8,
 }
 
-fn reason_number(reason: Reason) -> u8
-    ensures { result ≡ reason_number reason }
-{
-    match reason {
-        Reason::PanelAskedFor => 10,
-        Reason::NoUser => 21,
-        Reason::BadName => 22,
-        Reason::NotInTheTable => 23,
-        Reason::Disabled => 31,
-        Reason::SeedVariableMissing => 41,
-        Reason::SubstituteMissing => 42,
-        Reason::SeedLength => 43,
-        Reason::SubstituteLength => 45,
-        Reason::DesNotAllowed => 46,
-        Reason::ClearPasswordMalformed => 48,
-        Reason::TokenDiffers => 49,
-        Reason::Granted => 50,
-    }
-}
+impl From<Result<Reason, Refusal>> for TvExplained {
+    ghost from_gives = { λ explained numbers. numbers ≡ explained_numbers explained };
 
-fn explained_numbers(explained: Explained) -> TvExplained
-    ensures { result ≡ explained_numbers explained }
-{
-    match explained {
-        Explained::Because(reason) => TvExplained {
-            refusal: 0,
-            reason: reason_number(reason),
-        },
-        Explained::Refused(n) => TvExplained {
-            refusal: n,
-            reason: 0,
-        },
+    fn from(explained: Result<Reason, Refusal>) -> TvExplained {
+        match explained {
+            Ok(reason) => TvExplained {
+                refusal: 0,
+                reason: reason as u8,
+            },
+            Err(e) => TvExplained {
+                refusal: e.number(),
+                reason: 0,
+            },
+        }
     }
 }
 
@@ -127,7 +101,7 @@ pub fn reasons_numbered()
 pub fn tv_explain(server_seed: &[u8], table: &[u8], payload: &[u8]) -> TvExplained
     ensures { result ≡ explained_numbers (explain_of server_seed.now table.now payload.now) }
 {
-    explained_numbers(signon_reason::explain(server_seed, table, payload))
+    signon_reason::explain(server_seed, table, payload).into()
 }
 
 // Writes the response record to the front of `out`. A number that is no verdict reads as 4, so that no session is said

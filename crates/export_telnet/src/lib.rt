@@ -4,16 +4,16 @@
 #![tactic(auto)]
 
 ghost use Rattle.std.specs.Prelude.{◌≡◌};
-ghost use Rattle.export_telnet.specs.Numbers.{event_numbers, record_numbers, write_named};
+ghost use Rattle.export_telnet.specs.Numbers.{no_event, event_numbers, no_record, record_numbers, write_named};
 ghost use Rattle.export.specs.Numbers.{kind_named, numbered, written_numbers};
 ghost use Rattle.telnet_reader.specs.Promise.{look_at, read_at};
 ghost use Rattle.telnet_records.specs.Promise.{record_at};
 ghost use Rattle.telnet_writer.specs.Promise.{write_of};
 ghost use Rattle.octets.specs.Lent.{outcome};
 
-use export::{NamedKind, TvWritten};
-use refusal::Written;
-use telnet_reader::Answer;
+use export::TvWritten;
+use refusal::Refusal;
+use telnet_reader::Found;
 use telnet_records::Record;
 
 // What is at a place. `what` is 0 where the input ended, 1 for data, 2 for a command, 3 for a negotiation, 4 for a
@@ -42,62 +42,64 @@ pub struct TvRecord {
     pub next: usize,
 }
 
-fn event_numbers(answer: Answer) -> TvEvent
+// No event: the input ended, where the refusal is 0.
+fn no_event(refusal: u8) -> TvEvent
+    ensures { result ≡ no_event refusal }
+{
+    TvEvent {
+        what: 0,
+        refusal,
+        code: 0,
+        option: 0,
+        length: 0,
+        next: 0,
+    }
+}
+
+fn event_numbers(answer: Result<Option<Found>, Refusal>) -> TvEvent
     ensures { result ≡ event_numbers answer }
 {
     match answer {
-        Answer::End => TvEvent {
-            what: 0,
-            refusal: 0,
-            code: 0,
-            option: 0,
-            length: 0,
-            next: 0,
-        },
-        Answer::Found { kind, length, next } => {
-            let k = export::kind_numbers(kind);
+        Ok(None) => no_event(0),
+        Ok(Some(found)) => {
+            let k = export::kind_numbers(found.kind);
             TvEvent {
                 what: k.what,
                 refusal: 0,
                 code: k.code,
                 option: k.option,
-                length,
-                next,
+                length: found.length,
+                next: found.next,
             }
         }
-        Answer::Refused(n) => TvEvent {
-            what: 0,
-            refusal: n,
-            code: 0,
-            option: 0,
-            length: 0,
-            next: 0,
-        },
+        Err(e) => no_event(e.number()),
     }
 }
 
-fn record_numbers(answer: Record) -> TvRecord
+fn record_numbers(answer: Result<Option<Record>, Refusal>) -> TvRecord
     ensures { result ≡ record_numbers answer }
 {
     match answer {
-        Record::Complete { length, next } => TvRecord {
+        Ok(Some(record)) => TvRecord {
             complete: 1,
             refusal: 0,
-            length,
-            next,
+            length: record.length,
+            next: record.next,
         },
-        Record::Unfinished => TvRecord {
-            complete: 0,
-            refusal: 0,
-            length: 0,
-            next: 0,
-        },
-        Record::Refused(n) => TvRecord {
-            complete: 0,
-            refusal: n,
-            length: 0,
-            next: 0,
-        },
+        Ok(None) => no_record(0),
+        Err(e) => no_record(e.number()),
+    }
+}
+
+// No record: none before the input ended, where the refusal is 0.
+fn no_record(refusal: u8) -> TvRecord
+    ensures { result ≡ no_record refusal }
+{
+    TvRecord {
+        complete: 0,
+        refusal,
+        length: 0,
+        next: 0,
     }
 }
 
@@ -129,12 +131,8 @@ pub fn tv_read_record(s: &[u8], at: usize, out: &mut [u8]) -> TvRecord
 pub fn tv_write(what: u8, code: u8, option: u8, payload: &[u8], out: &mut [u8]) -> TvWritten
     ensures { outcome result out.new ≡ numbered written_numbers (write_named (kind_named what code option) payload.now out.old) }
 {
-    match export::kind_named(what, code, option) {
-        NamedKind::Kind(kind) => {
-            return export::written_numbers(telnet_writer::write(kind, payload, out));
-        }
-        NamedKind::Nothing => {
-            return export::written_numbers(Written::Refused(refusal::NOT_WRITABLE));
-        }
-    }
+    let Some(kind) = export::kind_named(what, code, option) else {
+        return export::written_numbers(Err(Refusal::NotWritable));
+    };
+    export::written_numbers(telnet_writer::write(kind, payload, out))
 }

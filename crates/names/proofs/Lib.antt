@@ -1,5 +1,6 @@
 pub mod Agreement
 pub mod Apart
+pub mod Every
 pub mod Text
 pub mod Held
 pub mod Order

@@ -53,8 +53,8 @@ pub fn ebcdic(b: u8) -> u8
     }
 }
 
-// Whether a byte, raised already, may be in a name: those bytes have an EBCDIC of their own.
-fn is_name_byte(b: u8) -> bool
+// Whether a byte, raised already, may be in a name: those bytes have an EBCDIC of their own, and no other has.
+pub fn is_name_byte(b: u8) -> bool
     ensures { result ≡ is_name_byte b }
 {
     ebcdic(b) != SUBSTITUTE
@@ -64,14 +64,7 @@ fn is_name_byte(b: u8) -> bool
 fn are_name_bytes(text: &[u8]) -> bool
     ensures { result ≡ every is_name_byte (raised text.now) }
 {
-    let mut i = 0;
-    while i < text.len() {
-        if !is_name_byte(raise(text[i])) {
-            return false;
-        }
-        i += 1;
-    }
-    true
+    text.iter().all(|b| is_name_byte(raise(*b)))
 }
 
 // Whether a text is a name of at most `limit` bytes.
@@ -93,10 +86,8 @@ fn raised_bytes(text: &[u8]) -> [u8; 10]
     ensures { result ≡ filled 0 10 (raised text.now) }
 {
     let mut bytes = [0u8; PROFILE_LIMIT];
-    let mut i = 0;
-    while i < text.len() {
+    for i in 0..text.len() {
         bytes[i] = raise(text[i]);
-        i += 1;
     }
     bytes
 }

@@ -2,7 +2,7 @@
 // and `specs/Padding.antt`.
 #![tactic(auto)]
 
-ghost use Rattle.std.specs.Prelude.{◌≡◌, ◌+◌, ◌-◌, get_or};
+ghost use Rattle.std.specs.Prelude.{◌≡◌, get_or};
 ghost use Rattle.octets.specs.Lent.{outcome};
 ghost use Rattle.octets.specs.Promise.{put_at};
 ghost use Rattle.names.specs.Padding.{filled};
@@ -23,29 +23,17 @@ fn ebcdic_at(text: &[u8], at: usize) -> u8
     BLANK
 }
 
-// How long a text of `length` bytes is when it is padded to a width.
-fn filled_length(length: usize, width: usize) -> usize
-    ensures { result ≡ length + (width - length) }
-{
-    if length < width {
-        return width;
-    }
-    length
-}
-
 // Puts the EBCDIC of a text, padded with blanks to a width, at a place of the buffer; where it does not fit, writes
 // nothing and answers false.
 pub fn put_ebcdic(text: &[u8], width: usize, out: &mut [u8], at: usize) -> bool
     ensures { outcome result out.new ≡ put_at (filled blank width (ebcdic_of text.now)) out.old at }
 {
-    let count = filled_length(text.len(), width);
+    let count = text.len().max(width);
     if octets::no_room(count, at, out.len()) {
         return false;
     }
-    let mut i = 0;
-    while i < count {
+    for i in 0..count {
         out[at + i] = ebcdic_at(text, i);
-        i += 1;
     }
     true
 }

@@ -1,43 +1,26 @@
--- The order of names from a place on: by the bytes there, and where one of the two has ended. Assumes nothing.
-use mathlib.Core.Path.{◌≡◌, refl, sym, ◌∙◌}
+-- The library's order of slices is the order of names. Assumes nothing.
+use Rattle.std.specs.Prelude.{Option, Some, cond}
+use mathlib.Core.Path.{◌≡◌, refl}
 use mathlib.Core.Bool.{Bool, true, false, ◌&&◌, ◌||◌}
 use mathlib.Core.List.{List, [], ◌∷◌}
-use Prim.Native.Nat.{ℕ, ◌+◌, ◌≤◌, ◌<◌}
-use native.Mathlib.Numerals.{add-one}
-use native.Mathlib.Omega.{arith}
+use Prim.Native.Nat.{ℕ}
 use lib.Dec.{eqb, ltb}
-use lib.ListN.{length, get_or, drop, drop_of_length-le}
-use lib.Seq.{drop-cons}
-use borrow.Author.Tests.{lt-ltb, le-ltb, eq-eqb, ne_eqb}
-use Rattle.octets.proofs.Order.{below-or-above}
-use mathlib.Core.Logic.{⊎_elim}
+use Rattle.std.specs.declared.cmp.Ordering.{Ordering}
+use Rattle.std.specs.declared.cmp.Ordering.TheVariants.{Less, Equal, Greater}
+use Rattle.std.specs.Ordering.{is_lt, is_some_and, partial_ordering_then, nat_cmp}
+use Rattle.std.specs.Cmp.Lexicographic.{slice_partial_cmp}
 use Rattle.names.specs.Order.{precedes}
 
-or_no : (t : Bool) → (t || false) ≡ t
-or_no true = refl
-or_no false = refl
+-- the first two bytes, by their two tests, before what the rest says
+first : (t u : Bool) (rest : Option Ordering) (p : Bool) → is_some_and is_lt rest ≡ p
+    → is_some_and is_lt (partial_ordering_then (Some (cond t Less (cond u Equal Greater))) rest) ≡ (t || (u && p))
+first true u rest p e = refl
+first false true rest p e = e
+first false false rest p e = refl
 
-module _ (a b : List ℕ) (i : ℕ) where
-  -- the second has ended
-  pub shorter : i < length a → length b ≤ i → precedes (drop i a) (drop i b) ≡ false
-  unfolding precedes
-  shorter h g = rw (drop-cons a i 0 h, drop_of_length-le b {i = i} g)
-
-  -- the bytes there differ
-  pub differing : i < length a → i < length b → (get_or a i 0 ≡ get_or b i 0 → ⊥) → precedes (drop i a) (drop i b) ≡ ltb (get_or a i 0) (get_or b i 0)
-  unfolding precedes
-  differing h g n = rw (drop-cons a i 0 h, drop-cons b i 0 g, ne_eqb (get_or a i 0) (get_or b i 0) n) (or_no (ltb (get_or a i 0) (get_or b i 0)))
-
-  -- the bytes there are the same
-  pub same_byte : i < length a → i < length b → get_or a i 0 ≡ get_or b i 0 → precedes (drop i a) (drop i b) ≡ precedes (drop (i + 1) a) (drop (i + 1) b)
-  unfolding precedes
-  same_byte h g e =
-      rw (drop-cons a i 0 h, drop-cons b i 0 g, e, le-ltb (get_or b i 0) (get_or b i 0) (omega arith), eq-eqb (get_or b i 0) (get_or b i 0) refl, add-one)
-
-  -- the first has ended
-  pub ended : length a ≤ i → precedes (drop i a) (drop i b) ≡ ltb i (length b)
-  unfolding precedes
-  ended h =
-      ⊎_elim (λ g. rw (drop_of_length-le a {i = i} h, drop-cons b i 0 g, lt-ltb i (length b) g))
-      (λ g. rw (drop_of_length-le a {i = i} h, drop_of_length-le b {i = i} g, le-ltb i (length b) g))
-      (below-or-above i (length b))
+pub in_order : (a b : List ℕ) → is_some_and is_lt (slice_partial_cmp (λ x y. Some (nat_cmp x y)) a b) ≡ precedes a b
+unfolding precedes
+in_order [] [] = refl
+in_order [] (y ∷ ys) = refl
+in_order (x ∷ xs) [] = refl
+in_order (x ∷ xs) (y ∷ ys) = first (ltb x y) (eqb x y) _ _ (in_order xs ys)

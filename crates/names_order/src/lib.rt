@@ -3,45 +3,14 @@
 #![tactic(auto)]
 
 ghost use Rattle.std.specs.Prelude.{◌≡◌};
-ghost use Rattle.names.specs.Range.{every};
-ghost use Rattle.names.specs.Name.{is_name_byte, is_raised_name};
+ghost use Rattle.names.specs.Name.{is_raised_name};
 ghost use Rattle.names.specs.Order as order;
 
 // Whether one name comes before another: by the first byte that differs, a prefix first.
 pub fn precedes(one: &[u8], other: &[u8]) -> bool
     ensures { result ≡ order.precedes one.now other.now }
 {
-    let mut i = 0;
-    while i < one.len() {
-        if other.len() <= i {
-            return false;
-        }
-        if one[i] != other[i] {
-            return one[i] < other[i];
-        }
-        i += 1;
-    }
-    i < other.len()
-}
-
-// Whether a byte may be in a name that is raised: those bytes have an EBCDIC of their own, and no other has.
-fn is_name_byte(b: u8) -> bool
-    ensures { result ≡ is_name_byte b }
-{
-    names::ebcdic(b) != 0x3F
-}
-
-fn are_name_bytes(text: &[u8]) -> bool
-    ensures { result ≡ every is_name_byte text.now }
-{
-    let mut i = 0;
-    while i < text.len() {
-        if !is_name_byte(text[i]) {
-            return false;
-        }
-        i += 1;
-    }
-    true
+    one < other
 }
 
 // Whether a text is a name of at most `limit` bytes as it is, with no lower case.
@@ -54,5 +23,5 @@ pub fn is_raised_name(text: &[u8], limit: usize) -> bool
     if limit < text.len() {
         return false;
     }
-    are_name_bytes(text)
+    text.iter().all(|b| names::is_name_byte(*b))
 }

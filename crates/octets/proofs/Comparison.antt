@@ -1,15 +1,14 @@
 -- The laws of the loop that compares. Assumes nothing.
 use mathlib.Core.Path.{◌≡◌, refl}
 use mathlib.Core.Bool.{Bool, true, false, ◌&&◌}
-use mathlib.Core.List.{List, []}
-use Prim.Native.Nat.{ℕ, ◌+◌, ◌<◌}
+use mathlib.Core.List.{List, [], ◌∷◌}
+use Prim.Native.Nat.{ℕ}
 use native.Mathlib.Omega.{arith}
 use borrow.Author.Tests.{eqb-true, eqb-false, ne_eqb}
 use lib.Bits.{bit_or, bit_xor, or_zero_l, or_add_and, and_le_l, and_le_r, xor_add_and, xor_self}
 use lib.Dec.{eqb}
-use lib.ListN.{length, get_or, drop}
+use lib.ListN.{length}
 use Rattle.octets.specs.Same.{same}
-use Rattle.octets.proofs.Equality.{same_next}
 
 -- one more pair of bytes, whose difference is kept with those before it
 xor-zero : (x y : ℕ) → eqb (bit_xor x y) 0 ≡ eqb x y
@@ -30,12 +29,14 @@ and_again : (a b c : Bool) → (a && b) && c ≡ a && (b && c)
 and_again true b c = refl
 and_again false b c = refl
 
-pub one_more : (d : ℕ) (a b : List ℕ) (i : ℕ) → i < length a → i < length b
-    → eqb (bit_or d (bit_xor (get_or a i 0) (get_or b i 0))) 0 && same (drop (i + 1) a) (drop (i + 1) b) ≡ eqb d 0 && same (drop i a) (drop i b)
-one_more d a b i h g =
-    rw (same_next a b i h g, or-zero, xor-zero) (and_again (eqb d 0) (eqb (get_or a i 0) (get_or b i 0)) _)
-
-pub none_left : (t : Bool) → t && same [] [] ≡ t
+pub one_more : (d x y : ℕ) (a b : List ℕ)
+    → eqb (bit_or d (bit_xor x y)) 0 && same a b ≡ eqb d 0 && same (x ∷ a) (y ∷ b)
 unfolding same
-none_left true = refl
-none_left false = refl
+one_more d x y a b = rw (or-zero, xor-zero) (and_again (eqb d 0) (eqb x y) (same a b))
+
+pub none_left : (t : Bool) (a b : List ℕ) → length a ≡ 0 → length b ≡ 0 → t && same a b ≡ t
+unfolding same
+none_left true [] [] e h = refl
+none_left false [] [] e h = refl
+none_left t [] (y ∷ b) e h = absurd (omega (arith, h))
+none_left t (x ∷ a) b e h = absurd (omega (arith, e))

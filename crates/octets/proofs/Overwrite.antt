@@ -8,6 +8,7 @@ use native.Mathlib.Numerals.{add-one}
 use native.Mathlib.Omega.{arith}
 use lib.ListN.{length, get_or, take, drop, set, length-append, length-drop, take-append-drop}
 use lib.Seq.{length-take-le, drop-drop, take_at, drop_at, take-append_seam, set_split, take-set-le, drop-cons, drop-length, sets, sets-eq}
+use borrow.Rule.Slice.PartMut.{put_mid}
 use Rattle.octets.specs.Lent.{overwrite}
 
 written : (l : List ℕ) (at : ℕ) (x : List ℕ) → overwrite l at x ≡ take at l ++ (x ++ drop (at + length x) l)
@@ -95,3 +96,8 @@ stored-pair l at a b h = rw add-one (stored (a ∷ b ∷ []) l at h)
 -- bytes over the whole of a buffer
 pub overwrite-whole : (l x : List ℕ) → length x ≡ length l → overwrite l 0 x ≡ x
 overwrite-whole l x h = overwrite-front l x ∙ rw (h, drop-length, append-nil)
+
+-- the part from a place on, as long as the bytes that it becomes
+pub part-overwrite : (l : List ℕ) (at k : ℕ) (x : List ℕ) → k ≡ length x → put_mid at k l x ≡ overwrite l at x
+unfolding overwrite
+part-overwrite l at k x e = rw e (ap (λ r. take at l ++ (x ++ r)) (drop-drop (length x) at l))

@@ -24,11 +24,7 @@ pub fn put(bytes: &[u8], buffer: &mut [u8], at: usize) -> bool
     if no_room(bytes.len(), at, buffer.len()) {
         return false;
     }
-    let mut i = 0;
-    while i < bytes.len() {
-        buffer[at + i] = bytes[i];
-        i += 1;
-    }
+    buffer[at..at + bytes.len()].copy_from_slice(bytes);
     true
 }
 
@@ -88,10 +84,8 @@ pub fn same(a: &[u8], b: &[u8]) -> bool
         return false;
     }
     let mut differences: u8 = 0;
-    let mut i = 0;
-    while i < a.len() {
-        differences = differences | (a[i] ^ b[i]);
-        i += 1;
+    for (x, y) in a.iter().zip(b) {
+        differences |= x ^ y;
     }
     differences == 0
 }

@@ -10,12 +10,10 @@ fn is_among(text: &[u8], at: usize, b: u8) -> bool
     ensures { result ≡ ltb (length (up_to b (drop at text.now))) 8 }
 {
     let mut found = false;
-    let mut j = 0;
-    while j < 8 {
+    for j in 0..8 {
         if text[at + j] == b {
             found = true;
         }
-        j += 1;
     }
     found
 }
@@ -42,12 +40,11 @@ fn pass_eights(text: &[u8], at: usize, b: u8) -> usize
 pub fn find_byte(text: &[u8], at: usize, b: u8) -> usize
     ensures { result ≡ at + length (up_to b (drop at text.now)) }
 {
-    let mut i = pass_eights(text, at, b);
-    while i < text.len() {
+    let start = pass_eights(text, at, b);
+    for i in start..text.len() {
         if text[i] == b {
             return i;
         }
-        i += 1;
     }
-    i
+    start.max(text.len())
 }

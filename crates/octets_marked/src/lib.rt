@@ -22,12 +22,10 @@ pub fn marked_length(bytes: &[u8], low: u8, high: u8) -> usize
     ensures { (mark : ℕ) → result ≡ length (marked mark low high bytes.now) }
 {
     let mut marks = 0;
-    let mut i = 0;
-    while i < bytes.len() {
-        if lies(bytes[i], low, high) {
+    for b in bytes {
+        if lies(*b, low, high) {
             marks += 1;
         }
-        i += 1;
     }
     bytes.len() + marks
 }
@@ -53,12 +51,10 @@ fn eight_plain(bytes: &[u8], at: usize, low: u8, high: u8) -> bool
     ensures { result ≡ true → (mark : ℕ) → Plain mark low high bytes.now at 8 }
 {
     let mut plain = true;
-    let mut j = 0;
-    while j < 8 {
+    for j in 0..8 {
         if lies(bytes[at + j], low, high) {
             plain = false;
         }
-        j += 1;
     }
     plain
 }
@@ -68,10 +64,8 @@ fn copy_eight(bytes: &[u8], from: usize, out: &mut [u8], to: usize)
     requires { (from + 8 ≤ length bytes.now) × (to + 8 ≤ length out.old) }
     ensures { out.new ≡ overwrite out.old to (take 8 (drop from bytes.now)) }
 {
-    let mut j = 0;
-    while j < 8 {
+    for j in 0..8 {
         out[to + j] = bytes[from + j];
-        j += 1;
     }
 }
 
@@ -89,11 +83,9 @@ fn put_bytes(
     requires { (from ≤ end) × (end ≤ length bytes.now) × (at + length (marked mark low high (drop from bytes.now)) ≤ length out.old) }
     ensures { Further mark low high bytes.now from out.old at end result out.new }
 {
-    let mut i = from;
     let mut k = at;
-    while i < end {
+    for i in from..end {
         k = put_byte(bytes[i], mark, low, high, out, k);
-        i += 1;
     }
     k
 }

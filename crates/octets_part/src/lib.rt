@@ -9,10 +9,7 @@ ghost use Rattle.octets.specs.Part as octets;
 pub fn clipped(n: usize, limit: usize) -> usize
     ensures { result ≡ min n limit }
 {
-    if limit < n {
-        return limit;
-    }
-    n
+    n.min(limit)
 }
 
 // Where `n` bytes from `at` on end in a buffer that may have fewer of them.

@@ -18,7 +18,7 @@ use Rattle.option_ends.specs.Ends.{End, near, far, request, receive, Call, ◌do
 use Rattle.option_ends.specs.Ends.{taken, call_result, sent_by, stepped, changed, move, after, count_where, sends, granted}
 use Rattle.option_ends.specs.Replay.{act_of, call_of, calls_of, replayed}
 use Rattle.option_ends.specs.Internal.Turn.{onward, clipped}
-use Rattle.option_rules.proofs.Chosen.{by-none}
+use Rattle.option_rules.proofs.Chosen.{by_none}
 use Rattle.option_ends.proofs.Agreement.{after-append, demand3}
 
 -- nothing moves two fresh ends of an option that is not carried
@@ -43,7 +43,7 @@ two_deep option ks e = go (carried option) refl e
 
     go : (b : Bool) → b ≡ carried option → (e : End) → length (at (after (rules_of option) fresh ks) e).coming ≤ 2
     go true c e = (demand3 option (rw (← c) tt) ks).at_most_two e
-    go false c e = rw (by-none option false c refl, unmoved ks) (none e)
+    go false c e = rw (by_none option false c refl, unmoved ks) (none e)
 
 -- so the code's lines have room
 pub has_room : (option : ℕ) (ks : List Call) → clipped (replayed (rules_of option) ks) ≡ replayed (rules_of option) ks

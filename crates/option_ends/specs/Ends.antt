@@ -1,14 +1,13 @@
 -- Two ends of one side of an option, each stepped by the option rules, with a line each way that keeps order and loses
 -- nothing (specification, "Two ends, for demand 3"). Every count is made over the history of calls.
-use Rattle.std.specs.Prelude.{ℕ, zero, suc, Bool, true, false, not, ◌&&◌, ◌||◌, List, [], ◌∷◌, ◌++◌, eqb, if◌then◌else◌}
+use Rattle.std.specs.Prelude.{ℕ, zero, suc, Bool, true, false, not, ◌&&◌, ◌||◌, List, [], ◌∷◌, ◌++◌, eqb, if◌then◌else◌, Option, None, Some}
 use Rattle.option_rules.specs.declared.Command.{Command}
 use Rattle.option_rules.specs.declared.Side.{Side}
 use Rattle.option_rules.specs.declared.Side.TheVariants.{Off}
-use Rattle.option_rules.specs.declared.Sending.{Sending}
-use Rattle.option_rules.specs.declared.Sending.TheVariants.{Nothing, Command as Sends}
 use Rattle.option_rules.specs.declared.Step.{Step}
 use Rattle.option_rules.specs.Table.{Row, on_receive, on_request}
 use Rattle.refusal.specs.Refusal.{not_carried, already_so, under_way, already_queued}
+use Rattle.refusal.specs.RefusedBy.{number_or_0}
 
 pub data End : Type 0 where
   near : End
@@ -62,9 +61,9 @@ unfoldable pub call_result : (Side → Row) → AtEnd → Act → CallResult
 call_result rules e (request c) = requested (on_request rules e.state c)
 call_result rules e (receive accepting) = taken rules e.state accepting e.coming
 
-unfoldable pub sent_by : Sending → List Command
-sent_by Nothing = []
-sent_by (Sends c) = c ∷ []
+unfoldable pub sent_by : Option Command → List Command
+sent_by None = []
+sent_by (Some c) = c ∷ []
 
 -- one end stepped: it has the successor, and what the step sends goes last on the line to the other
 unfoldable pub stepped : Ends → End → List Command → Step → Ends
@@ -95,14 +94,14 @@ count_where such rules t ((e does a) ∷ ks) =
 -- the number that a call tells; 0 where it is no call
 unfoldable pub number_told : CallResult → ℕ
 number_told nothing = 0
-number_told (requested s) = s.number
-number_told (received accepting rest s) = s.number
+number_told (requested s) = number_or_0 s.refusal
+number_told (received accepting rest s) = number_or_0 s.refusal
 
 -- The tests of what is counted.
 
-unfoldable pub is_command : Sending → Bool
-is_command Nothing = false
-is_command (Sends c) = true
+unfoldable pub is_command : Option Command → Bool
+is_command None = false
+is_command (Some c) = true
 
 -- a command is sent
 unfoldable pub sends : End → CallResult → Bool
@@ -116,7 +115,7 @@ is_refusal n = eqb n not_carried || eqb n already_so || eqb n under_way || eqb n
 -- a request that is not refused
 unfoldable pub granted : End → CallResult → Bool
 granted e nothing = false
-granted e (requested s) = not (is_refusal s.number)
+granted e (requested s) = not (is_refusal (number_or_0 s.refusal))
 granted e (received accepting rest s) = false
 
 -- a receipt of a command

@@ -1,9 +1,9 @@
 -- What is told of what is at a place of the other end's line (`Theorems.HearTells`), and that a command which was
 -- put on a line is heard there (`Theorems.RequestIsHeard`). Assumes nothing.
-use mathlib.Core.Path.{◌≡◌, refl, sym, ap, ◌∙◌, subst, subst⁻¹}
+use mathlib.Core.Path.{◌≡◌, refl, ap, ◌∙◌, subst⁻¹}
 use mathlib.Core.Bool.{Bool}
 use mathlib.Core.List.{List, [], ◌∷◌, ◌++◌}
-use mathlib.Core.Logic.{◌↔◌, ◌⊎◌, inl, inr, ⊎_elim}
+use mathlib.Core.Logic.{◌⊎◌, inl, inr, ⊎_elim}
 use Prim.Native.Nat.{ℕ, ◌+◌, ◌≤◌, ◌<◌}
 use native.Mathlib.Omega.{arith}
 use lib.ListN.{length, take, drop}
@@ -19,16 +19,18 @@ use Rattle.telnet.specs.Read.{Front, no_event, found, refused, data_run, run_or,
 use Rattle.telnet.proofs.Refusals.{FrontBy, front_by}
 use Rattle.telnet_reader.specs.Promise.{answered, look_at}
 use Rattle.option_rules.specs.declared.Command.{Command}
-use Rattle.option_rules.specs.declared.Sending.{Sending}
-use Rattle.option_rules.specs.declared.Sending.TheVariants.{Nothing, Command as Sends}
-use Rattle.option_verbs.specs.declared.Whose.{Whose}
+use Rattle.std.specs.Prelude.{Option, None, Some}
+use Rattle.refusal.specs.declared.Refusal.{Refusal}
+use Rattle.refusal.specs.declared.Refusal.TheVariants.{PastTheEnd}
+use Rattle.refusal.specs.Refusal.{number}
+use Rattle.refusal.specs.RefusedBy.{number_or_0}
 use Rattle.option_verbs.specs.declared.Told.{Told}
 use Rattle.option_sides.specs.declared.Sides.{Sides}
-use Rattle.option_verbs.specs.Verbs.{told_by, verb_for, facing}
+use Rattle.option_verbs.specs.Verbs.{told_by, verb_for}
 use Rattle.option_verbs.proofs.Heard.{heard-as-said}
 use Rattle.option_line.specs.declared.Sent.{Sent}
 use Rattle.option_line.specs.Line.{sent, heard_as, received_on, requested_on, heard_on}
-use Rattle.option_line.specs.Theorems.{by_receipt, by_request, carrying, taken, Short, Kept, Tells, ConcernsNoOption, TellsHeard, HearTells, RequestIsHeard}
+use Rattle.option_line.specs.Theorems.{by_receipt, by_request, carrying, taken, Short, number_of, Kept, Tells, ConcernsNoOption, TellsHeard, HearTells, RequestIsHeard}
 use Rattle.option_line.proofs.Places.{past, within}
 use Rattle.option_line.proofs.Telling.{number_by, request-tells-all, receipt-tells-all}
 
@@ -43,11 +45,11 @@ module _ (s : Sides) (heard : List ℕ) (from : ℕ) (accept : Bool) (line : Lis
   abbrev front : Front
   front = event_of (drop from heard)
 
-  r-past : length line < at → r ≡ outcome (sent s 5 at) line
+  r-past : length line < at → r ≡ outcome (sent s (Some PastTheEnd) at) line
   unfolding heard_on
   r-past = past s line at (heard_as s (look_at heard from) accept line at)
 
-  r-beyond : at ≤ length line → length heard < from → r ≡ outcome (sent s 5 at) line
+  r-beyond : at ≤ length line → length heard < from → r ≡ outcome (sent s (Some PastTheEnd) at) line
   unfolding heard_on look_at
   r-beyond h g = within s line at (heard_as s (look_at heard from) accept line at) h ∙ rw (lt-ltb (length heard) from g)
 
@@ -55,7 +57,7 @@ module _ (s : Sides) (heard : List ℕ) (from : ℕ) (accept : Bool) (line : Lis
   unfolding heard_on look_at
   r-heard h g = within s line at (heard_as s (look_at heard from) accept line at) h ∙ rw (le-ltb (length heard) from g)
 
-  not_five : at ≤ length line → (f : Front) → FrontBy (λ n. n ≡ 5 → ⊥) f → (hearing f).answer.number ≡ 5 → ⊥
+  not_five : at ≤ length line → (f : Front) → FrontBy (λ e. number e ≡ 5 → ⊥) f → number_of (hearing f) ≡ 5 → ⊥
   unfolding answered
   not_five h no_event t e = omega (arith, e)
   not_five h (found (run d)) t e = omega (arith, e)
@@ -73,7 +75,7 @@ module _ (s : Sides) (heard : List ℕ) (from : ℕ) (accept : Bool) (line : Lis
   front_kept (found (subnegotiation o p)) a b = refl
   front_kept (refused n) a b = refl
 
-  nothing-heard : (f : Front) → ConcernsNoOption f → hearing f ≡ outcome (sent s 0 at) line
+  nothing-heard : (f : Front) → ConcernsNoOption f → hearing f ≡ outcome (sent s None at) line
   unfolding answered
   nothing-heard no_event t = refl
   nothing-heard (found (run d)) t = refl
@@ -82,16 +84,16 @@ module _ (s : Sides) (heard : List ℕ) (from : ℕ) (accept : Bool) (line : Lis
   nothing-heard (found (subnegotiation o p)) t = refl
   nothing-heard (refused n) t = absurd t
 
-  refused-heard : (n : ℕ) → (hearing (refused n)).answer.number ≡ n
+  refused-heard : (e : Refusal) → (hearing (refused e)).answer.refusal ≡ Some e
   unfolding answered
-  refused-heard n = refl
+  refused-heard e = refl
 
   command-heard : (v : Verb) (o : ℕ) → hearing (found (negotiation v o)) ≡ received_on s v o accept line at
   unfolding answered
   command-heard v o = refl
 
   -- the three ways
-  by_way : (P : Outcome Sent → Type 0) → ((length line < at) ⊎ (length heard < from) → P (outcome (sent s 5 at) line))
+  by_way : (P : Outcome Sent → Type 0) → ((length line < at) ⊎ (length heard < from) → P (outcome (sent s (Some PastTheEnd) at) line))
       → (at ≤ length line → from ≤ length heard → P (hearing front)) → P r
   by_way P f g =
       ⊎_elim
@@ -102,17 +104,17 @@ module _ (s : Sides) (heard : List ℕ) (from : ℕ) (accept : Bool) (line : Lis
   pub tells-heard : TellsHeard s heard from accept line at r
   tells-heard = record {
     five = (
-      by_way (λ (u : Outcome Sent). u.answer.number ≡ 5 → (length line < at) ⊎ (length heard < from)) (λ h _. h)
-          (λ h g e. absurd (not_five h front (front_by (λ n. n ≡ 5 → ⊥) (λ e. omega (arith, e)) (λ e. omega (arith, e)) (λ e. omega (arith, e)) (λ e. omega (arith, e)) (drop from heard)) e)),
+      by_way (λ (u : Outcome Sent). number_of u ≡ 5 → (length line < at) ⊎ (length heard < from)) (λ h _. h)
+          (λ h g e. absurd (not_five h front (front_by (λ e. number e ≡ 5 → ⊥) (λ e. omega (arith, e)) (λ e. omega (arith, e)) (λ e. omega (arith, e)) (λ e. omega (arith, e)) (drop from heard)) e)),
       λ p. ⊎_elim
-          (λ h. ap (λ (u : Outcome Sent). u.answer.number) (r-past h))
+          (λ h. ap number_of (r-past h))
           (λ k. ⊎_elim
-          (λ h. ap (λ (u : Outcome Sent). u.answer.number) (r-past h))
-          (λ h. ap (λ (u : Outcome Sent). u.answer.number) (r-beyond h k))
+          (λ h. ap number_of (r-past h))
+          (λ h. ap number_of (r-beyond h k))
           (below-or-above (length line) at))
           p,
     );
-    reader = λ h g n e. ap (λ (u : Outcome Sent). u.answer.number) (r-heard h g ∙ ap hearing e) ∙ refused-heard n;
+    reader = λ h g n e. ap (λ (u : Outcome Sent). u.answer.refusal) (r-heard h g ∙ ap hearing e) ∙ refused-heard n;
     command = λ h g v o e.
         subst⁻¹ (λ (u : Outcome Sent). Tells s (told_by v).whose o (by_receipt s (told_by v).whose o (told_by v).command accept) line at u)
         (r-heard h g ∙ ap hearing e ∙ command-heard v o) (receipt-tells-all s v o accept line at);
@@ -122,8 +124,8 @@ module _ (s : Sides) (heard : List ℕ) (from : ℕ) (accept : Bool) (line : Lis
 
   -- what holds of 5, of 4, of 0, of the reader's number and of the table's holds of the number that is told
   module _ (P : ℕ → Type 0) (five : P 5) (four : P 4) (zero : P 0)
-      (table : (v : Verb) (o : ℕ) → P (by_receipt s (told_by v).whose o (told_by v).command accept).number) where
-    front-number : (f : Front) → FrontBy P f → P (hearing f).answer.number
+      (table : (v : Verb) (o : ℕ) → P (number_or_0 (by_receipt s (told_by v).whose o (told_by v).command accept).refusal)) where
+    front-number : (f : Front) → FrontBy (λ e. P (number e)) f → P (number_of (hearing f))
     unfolding answered
     front-number no_event t = zero
     front-number (found (run d)) t = zero
@@ -133,8 +135,8 @@ module _ (s : Sides) (heard : List ℕ) (from : ℕ) (accept : Bool) (line : Lis
     front-number (found (subnegotiation o p)) t = zero
     front-number (refused n) t = t
 
-    pub heard-number : FrontBy P front → P r.answer.number
-    heard-number t = by_way (λ (u : Outcome Sent). P u.answer.number) (λ _. five) (λ _ _. front-number front t)
+    pub heard-number : FrontBy (λ e. P (number e)) front → P (number_of r)
+    heard-number t = by_way (λ (u : Outcome Sent). P (number_of u)) (λ _. five) (λ _ _. front-number front t)
 
 pub hear-tells : HearTells
 hear-tells = tells-heard
@@ -152,9 +154,9 @@ put-stands : (l : List ℕ) (at : ℕ) (x : List ℕ) → at ≤ length l → dr
 unfolding overwrite
 put-stands l at x h = drop_at (take at l) (x ++ drop (at + length x) l) at (length-take-le at l h)
 
-never-short : (line : List ℕ) (at : ℕ) → at + 3 ≤ length line → (e : Sending) → Short line at e → ⊥
-never-short line at h Nothing g = g
-never-short line at h (Sends c) g = omega (arith, h, g)
+never-short : (line : List ℕ) (at : ℕ) → at + 3 ≤ length line → (e : Option Command) → Short line at e → ⊥
+never-short line at h None g = g
+never-short line at h (Some c) g = omega (arith, h, g)
 
 pub request-is-heard : RequestIsHeard
 request-is-heard asker hearer w o c d accept line at own place sends fits room =

@@ -5,13 +5,14 @@ use Prim.Native.Nat.{ℕ, ◌≤◌, ◌<◌}
 use lib.ListN.{length}
 use borrow.Author.Tests.{lt-ltb, le-ltb}
 use Rattle.octets.specs.Lent.{Outcome, outcome}
-use Rattle.refusal.specs.Refusal.{past_the_end}
+use Rattle.std.specs.Prelude.{Some}
+use Rattle.refusal.specs.declared.Refusal.TheVariants.{PastTheEnd}
 use Rattle.option_sides.specs.declared.Sides.{Sides}
 use Rattle.option_line.specs.declared.Sent.{Sent}
 use Rattle.option_line.specs.Line.{sent, unless_past}
 
 module _ (s : Sides) (line : List ℕ) (at : ℕ) (o : Outcome Sent) where
-  pub past : length line < at → unless_past s line at o ≡ outcome (sent s past_the_end at) line
+  pub past : length line < at → unless_past s line at o ≡ outcome (sent s (Some PastTheEnd) at) line
   unfolding unless_past
   past h = rw (lt-ltb (length line) at h)
 

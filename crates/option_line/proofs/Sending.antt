@@ -12,15 +12,16 @@ use Rattle.octets.specs.Promise.{put_at}
 use Rattle.octets.proofs.Order.{below-or-above}
 use Rattle.octets.proofs.Overwrite.{overwrite-whole}
 use Rattle.octets.proofs.Promise.{put-fits, put_refused, front_fits}
-use Rattle.refusal.specs.declared.Written.{Written}
-use Rattle.refusal.specs.Refusal.{no_room}
+use Rattle.std.specs.Prelude.{None, Some, Result}
+use Rattle.refusal.specs.declared.Refusal.{Refusal}
+use Rattle.refusal.specs.declared.Refusal.TheVariants.{NoRoom}
 use Rattle.telnet.specs.declared.Verb.{Verb}
 use Rattle.telnet.specs.Event.{negotiation}
 use Rattle.telnet.specs.Write.{written, writable}
 use Rattle.telnet_writer.specs.Promise.{write_of}
 use Rattle.option_sides.specs.declared.Sides.{Sides}
 use Rattle.option_sides.specs.declared.Answered.{Answered}
-use Rattle.option_verbs.specs.declared.Outgoing.TheVariants.{Nothing, Command as OptionCommand}
+use Rattle.option_verbs.specs.declared.Outgoing.{Outgoing}
 use Rattle.option_line.specs.declared.Sent.{Sent}
 use Rattle.option_line.specs.Line.{sent, command_length, sent_by}
 
@@ -30,35 +31,35 @@ unfolding written
 command-length v o = refl
 
 -- and fills three
-pub command-filled : (v : Verb) (o : ℕ) (l : List ℕ) → length l ≡ 3 → {w : Written} {x : List ℕ} → outcome w x ≡ write_of (negotiation v o) l
+pub command-filled : (v : Verb) (o : ℕ) (l : List ℕ) → length l ≡ 3 → {w : Result ℕ Refusal} {x : List ℕ} → outcome w x ≡ write_of (negotiation v o) l
     → x ≡ written (negotiation v o)
 unfolding write_of writable written
 command-filled v o l h e =
     let x = written (negotiation v o) in
-    ap (λ (r : Outcome Written). r.lent) (e ∙ front_fits _ _ x l (omega arith)) ∙ overwrite-whole l x (sym h)
+    ap (λ (r : Outcome (Result ℕ Refusal)). r.lent) (e ∙ front_fits _ _ x l (omega arith)) ∙ overwrite-whole l x (sym h)
 
 -- by whether the command was put
 abbrev answered : Sides → Answered → ℕ → Bool → Sent
-answered s a at true = sent a.sides a.number (at + command_length)
-answered s a at false = sent s no_room at
+answered s a at true = sent a.sides a.refusal (at + command_length)
+answered s a at false = sent s (Some NoRoom) at
 
 module _ (s : Sides) (a : Answered) (line : List ℕ) (at : ℕ) where
-  pub nothing-sent : a.writes ≡ Nothing → outcome (sent a.sides a.number at) line ≡ sent_by s a line at
+  pub nothing-sent : a.writes ≡ None → outcome (sent a.sides a.refusal at) line ≡ sent_by s a line at
   unfolding sent_by
   nothing-sent e = rw e
 
-  module _ (v : Verb) (o : ℕ) (e : a.writes ≡ OptionCommand v o) where
-    by-put : let p = put_at (written (negotiation v o)) line at in sent_by s a line at ≡ outcome (answered s a at p.answer) p.lent
+  module _ (q : Outgoing) (e : a.writes ≡ Some q) where
+    by-put : let p = put_at (written (negotiation q.verb q.option)) line at in sent_by s a line at ≡ outcome (answered s a at p.answer) p.lent
     unfolding sent_by
     by-put =
-        let x = written (negotiation v o) in
-        let n = command-length v o in
+        let x = written (negotiation q.verb q.option) in
+        let n = command-length q.verb q.option in
         ⊎_elim
         (λ h. rw (e, lt-leb (at + command_length) (length line) h, put_refused x line at (omega (arith, n, h))))
         (λ h. rw (e, le-leb (at + command_length) (length line) h, put-fits x line at (omega (arith, n, h))))
         (below-or-above (length line) (at + command_length))
 
-    pub command-sent : (t : Bool) {l : List ℕ} → outcome t l ≡ put_at (written (negotiation v o)) line at
+    pub command-sent : (t : Bool) {l : List ℕ} → outcome t l ≡ put_at (written (negotiation q.verb q.option)) line at
         → outcome (answered s a at t) l ≡ sent_by s a line at
     command-sent t p = rw (by-put, ← p)
 

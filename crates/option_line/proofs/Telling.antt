@@ -1,19 +1,20 @@
 -- What is told of a step of one side with its command at a place of a line (`Theorems.RequestTells`,
 -- `Theorems.ReceiptTells`). Assumes nothing.
-use mathlib.Core.Path.{◌≡◌, refl, sym, ap, ◌∙◌, subst⁻¹}
-use mathlib.Core.Bool.{Bool}
-use mathlib.Core.List.{List, [], ◌∷◌}
-use mathlib.Core.Logic.{◌↔◌, ◌⊎◌, inl, inr, ⊎_elim}
+use mathlib.Core.Path.{◌≡◌, refl, ap, ◌∙◌, subst⁻¹}
+use mathlib.Core.List.{List}
+use mathlib.Core.Logic.{◌⊎◌, inl, inr, ⊎_elim}
 use Prim.Native.Nat.{ℕ, ◌+◌, ◌≤◌, ◌<◌}
 use native.Mathlib.Omega.{arith}
 use lib.ListN.{length}
 use borrow.Author.Tests.{le-leb, lt-leb}
 use Rattle.octets.specs.Lent.{Outcome, outcome}
 use Rattle.octets.proofs.Order.{below-or-above}
-use Rattle.refusal.specs.Refusal.{no_room}
+use Rattle.std.specs.Prelude.{Option, None, Some}
+use Rattle.refusal.specs.declared.Refusal.{Refusal}
+use Rattle.refusal.specs.declared.Refusal.TheVariants.{NoRoom, PastTheEnd}
+use Rattle.refusal.specs.RefusedBy.{number_or_0}
+use Rattle.option_rules.specs.declared.Command.{Command}
 use Rattle.telnet.specs.Write.{written}
-use Rattle.option_rules.specs.declared.Sending.{Sending}
-use Rattle.option_rules.specs.declared.Sending.TheVariants.{Nothing, Command as Sends}
 use Rattle.option_rules.specs.declared.Step.{Step}
 use Rattle.option_rules.proofs.Cells as Cells
 use Rattle.option_rules.proofs.Cells.{receipt-tells, request-tells}
@@ -23,59 +24,55 @@ use Rattle.option_verbs.specs.Verbs.{told_by, command_for}
 use Rattle.option_sides.specs.Session.{side_at, with_side, answered_by}
 use Rattle.option_sides.proofs.Setting.{own-side}
 use Rattle.option_line.specs.declared.Sent.{Sent}
-use Rattle.option_line.specs.Line.{sent, command_length, sent_by, unless_past, received_on, requested_on}
-use Rattle.option_line.specs.Theorems.{carrying, place_after, taken, Short, Kept, Tells, RequestTells, ReceiptTells}
+use Rattle.option_line.specs.Line.{sent, sent_by, unless_past, received_on, requested_on}
+use Rattle.option_line.specs.Theorems.{carrying, place_after, taken, Short, number_of, Kept, Tells, RequestTells, ReceiptTells}
 use Rattle.option_line.proofs.Places.{past, within}
-
--- a number that is another, said of an outcome
-abbrev number_of : Outcome Sent → ℕ
-number_of r = r.answer.number
 
 module _ (s : Sides) (line : List ℕ) (at : ℕ) where
   -- a command that is to be sent fits or does not; what is not to be sent is never short
-  fits-or-short : (e : Sending) → Short line at e ⊎ (Short line at e → ⊥)
-  fits-or-short Nothing = inr (λ h. h)
-  fits-or-short (Sends c) = ⊎_elim inl (λ h. inr (λ g. omega (arith, h, g))) (below-or-above (length line) (at + 3))
+  fits-or-short : (e : Option Command) → Short line at e ⊎ (Short line at e → ⊥)
+  fits-or-short None = inr (λ h. h)
+  fits-or-short (Some c) = ⊎_elim inl (λ h. inr (λ g. omega (arith, h, g))) (below-or-above (length line) (at + 3))
 
-  module _ (w : Whose) (o : ℕ) (x : Sides) (n : ℕ) where
-    sent-where-fits : (e : Sending) → (Short line at e → ⊥)
-        → sent_by s (record { sides = x; number = n; writes = command_for w o e }) line at
+  module _ (w : Whose) (o : ℕ) (x : Sides) (n : Option Refusal) where
+    sent-where-fits : (e : Option Command) → (Short line at e → ⊥)
+        → sent_by s (record { sides = x; refusal = n; writes = command_for w o e }) line at
         ≡ outcome (sent x n (place_after at e)) (carrying line at w o e)
     unfolding sent_by written
-    sent-where-fits Nothing h = refl
-    sent-where-fits (Sends c) h =
+    sent-where-fits None h = refl
+    sent-where-fits (Some c) h =
         rw (le-leb (at + 3) (length line) (⊎_elim (λ g. absurd (h g)) (λ g. g) (below-or-above (length line) (at + 3))))
 
-    not-sent-where-short : (e : Sending) → Short line at e
-        → sent_by s (record { sides = x; number = n; writes = command_for w o e }) line at ≡ outcome (sent s no_room at) line
+    not-sent-where-short : (e : Option Command) → Short line at e
+        → sent_by s (record { sides = x; refusal = n; writes = command_for w o e }) line at ≡ outcome (sent s (Some NoRoom) at) line
     unfolding sent_by
-    not-sent-where-short Nothing h = absurd h
-    not-sent-where-short (Sends c) h = rw (lt-leb (at + 3) (length line) h)
+    not-sent-where-short None h = absurd h
+    not-sent-where-short (Some c) h = rw (lt-leb (at + 3) (length line) h)
 
   module _ (w : Whose) (o : ℕ) (d : Step) (t : Cells.Tells (side_at s w o) d) where
     abbrev r : Outcome Sent
     r = unless_past s line at (sent_by s (answered_by s w o d) line at)
 
-    r-past : length line < at → r ≡ outcome (sent s 5 at) line
+    r-past : length line < at → r ≡ outcome (sent s (Some PastTheEnd) at) line
     r-past = past s line at (sent_by s (answered_by s w o d) line at)
 
-    r-short : at ≤ length line → Short line at d.sends → r ≡ outcome (sent s no_room at) line
+    r-short : at ≤ length line → Short line at d.sends → r ≡ outcome (sent s (Some NoRoom) at) line
     r-short h g =
         within s line at (sent_by s (answered_by s w o d) line at) h
-        ∙ not-sent-where-short w o (with_side s w o d.side) d.number d.sends g
+        ∙ not-sent-where-short w o (with_side s w o d.side) d.refusal d.sends g
 
     r-taken : at ≤ length line → (Short line at d.sends → ⊥) → r ≡ taken s w o d line at
     r-taken h g =
         within s line at (sent_by s (answered_by s w o d) line at) h
-        ∙ sent-where-fits w o (with_side s w o d.side) d.number d.sends g
+        ∙ sent-where-fits w o (with_side s w o d.side) d.refusal d.sends g
 
     -- the table tells neither 4 nor 5
-    over-five : d.number ≡ 0 ⊎ (6 ≤ d.number)
+    over-five : number_or_0 d.refusal ≡ 0 ⊎ (6 ≤ number_or_0 d.refusal)
     over-five = ⊎_elim inl (λ u. inr (⊎_elim (λ e. omega (arith, e)) (λ f. omega (arith, f.least)) u)) t
 
     -- the three ways
-    pub by_way : (P : Outcome Sent → Type 0) → (length line < at → P (outcome (sent s 5 at) line))
-        → (at ≤ length line → Short line at d.sends → P (outcome (sent s no_room at) line))
+    pub by_way : (P : Outcome Sent → Type 0) → (length line < at → P (outcome (sent s (Some PastTheEnd) at) line))
+        → (at ≤ length line → Short line at d.sends → P (outcome (sent s (Some NoRoom) at) line))
         → (at ≤ length line → (Short line at d.sends → ⊥) → P (taken s w o d line at)) → P r
     by_way P f g k =
         ⊎_elim
@@ -86,7 +83,7 @@ module _ (s : Sides) (line : List ℕ) (at : ℕ) where
     taken-kept : Kept s line at (taken s w o d line at)
     taken-kept a b = ⊎_elim (λ e. absurd (a e)) (λ u. ⊎_elim (λ e. absurd (b e)) unchanged u) t
       where
-        unchanged : Cells.Refuses (side_at s w o) d → taken s w o d line at ≡ outcome (sent s d.number at) line
+        unchanged : Cells.Refuses (side_at s w o) d → taken s w o d line at ≡ outcome (sent s d.refusal at) line
         unchanged f = rw (f.side, f.silent, own-side s w o)
 
     pub tells : Tells s w o d line at r
@@ -116,7 +113,7 @@ receipt-tells-all s v o accept line at =
 
 -- what holds of 5, of 4 and of the table's number holds of the number that is told
 pub number_by : (P : ℕ → Type 0) → P 5 → P 4 → (s : Sides) (w : Whose) (o : ℕ) (d : Step) (line : List ℕ) (at : ℕ) (r : Outcome Sent)
-    → Tells s w o d line at r → P d.number → P (number_of r)
+    → Tells s w o d line at r → P (number_or_0 d.refusal) → P (number_of r)
 number_by P five four s w o d line at r t step =
     ⊎_elim
     (λ h. subst⁻¹ P (t.five.1 h) five)

@@ -1,27 +1,25 @@
 -- Option commands put on the line in the call that steps the sides, so that no step is taken whose command could not be
 -- sent (the owner's demand 3: "Lines keep order and lose nothing"). Refusals in the specification's order: 5 first, 4
 -- last.
-use Rattle.std.specs.Prelude.{ℕ, ◌+◌, Bool, List, leb, ltb, length, if◌then◌else◌}
+use Rattle.std.specs.Prelude.{ℕ, ◌+◌, Bool, List, leb, ltb, length, if◌then◌else◌, Option, None, Some, Ok, Err}
 use Rattle.octets.specs.Lent.{Outcome, outcome, overwrite}
-use Rattle.refusal.specs.Refusal.{no_room, past_the_end}
+use Rattle.refusal.specs.declared.Refusal.{Refusal}
+use Rattle.refusal.specs.declared.Refusal.TheVariants.{NoRoom, PastTheEnd}
 use Rattle.telnet.specs.declared.Verb.{Verb}
 use Rattle.telnet.specs.declared.Kind.{Kind}
 use Rattle.telnet.specs.declared.Kind.TheVariants.{Data, Command as Simple, Negotiation, Subnegotiation}
 use Rattle.telnet.specs.Event.{negotiation}
 use Rattle.telnet.specs.Write.{written}
-use Rattle.telnet_reader.specs.declared.Answer.{Answer}
-use Rattle.telnet_reader.specs.declared.Answer.TheVariants.{End, Found, Refused}
-use Rattle.telnet_reader.specs.Promise.{look_at}
+use Rattle.telnet_reader.specs.Promise.{Answer, look_at}
 use Rattle.option_rules.specs.declared.Command.{Command}
 use Rattle.option_verbs.specs.declared.Whose.{Whose}
 use Rattle.option_sides.specs.declared.Sides.{Sides}
 use Rattle.option_sides.specs.declared.Answered.{Answered}
-use Rattle.option_verbs.specs.declared.Outgoing.TheVariants.{Nothing, Command as OptionCommand}
 use Rattle.option_sides.specs.Session.{received, requested}
 use Rattle.option_line.specs.declared.Sent.{Sent}
 
-abbrev pub sent : (s : Sides) (number place : ℕ) → Sent
-sent s n p = record { sides = s; number = n; place = p }
+abbrev pub sent : Sides → Option Refusal → (place : ℕ) → Sent
+sent s r p = record { sides = s; refusal = r; place = p }
 
 -- how many bytes an option command has: IAC, WILL to DONT, the option
 abbrev pub command_length : ℕ
@@ -32,16 +30,16 @@ command_length = 3
 unfoldable pub sent_by : Sides → Answered → (line : List ℕ) (at : ℕ) → Outcome Sent
 sent_by s a line at =
     elim a.writes [
-      | Nothing ↦ outcome (sent a.sides a.number at) line
-      | OptionCommand v o ↦
+      | None ↦ outcome (sent a.sides a.refusal at) line
+      | Some q ↦
           if leb (at + command_length) (length line)
-          then outcome (sent a.sides a.number (at + command_length)) (overwrite line at (written (negotiation v o)))
-          else outcome (sent s no_room at) line
+          then outcome (sent a.sides a.refusal (at + command_length)) (overwrite line at (written (negotiation q.verb q.option)))
+          else outcome (sent s (Some NoRoom) at) line
     ]
 
 -- nothing is done at a place past the end of the line
 unfoldable pub unless_past : Sides → (line : List ℕ) (at : ℕ) → Outcome Sent → Outcome Sent
-unless_past s line at o = if ltb (length line) at then outcome (sent s past_the_end at) line else o
+unless_past s line at o = if ltb (length line) at then outcome (sent s (Some PastTheEnd) at) line else o
 
 -- an option command from the other end, and the answer to it
 unfoldable pub received_on : Sides → Verb → (option : ℕ) (accept : Bool) (line : List ℕ) (at : ℕ) → Outcome Sent
@@ -54,14 +52,14 @@ requested_on s w o c line at = unless_past s line at (sent_by s (requested s w o
 -- an event from the other end: an option command is answered, any other concerns no option
 abbrev pub heard_event : Sides → Kind → (accept : Bool) (line : List ℕ) (at : ℕ) → Outcome Sent
 heard_event s (Negotiation v o) accept line at = received_on s v o accept line at
-heard_event s Data accept line at = outcome (sent s 0 at) line
-heard_event s (Simple c) accept line at = outcome (sent s 0 at) line
-heard_event s (Subnegotiation o) accept line at = outcome (sent s 0 at) line
+heard_event s Data accept line at = outcome (sent s None at) line
+heard_event s (Simple c) accept line at = outcome (sent s None at) line
+heard_event s (Subnegotiation o) accept line at = outcome (sent s None at) line
 
 abbrev pub heard_as : Sides → Answer → (accept : Bool) (line : List ℕ) (at : ℕ) → Outcome Sent
-heard_as s End accept line at = outcome (sent s 0 at) line
-heard_as s (Found k l next) accept line at = heard_event s k accept line at
-heard_as s (Refused n) accept line at = outcome (sent s n at) line
+heard_as s (Ok None) accept line at = outcome (sent s None at) line
+heard_as s (Ok (Some f)) accept line at = heard_event s f.kind accept line at
+heard_as s (Err e) accept line at = outcome (sent s (Some e) at) line
 
 -- what is at a place of the other end's line, heard: the reader's refusals are this one's, after 5 for the place of
 -- this end's line

@@ -11,33 +11,37 @@ ghost use Rattle.option_line.specs.Line.{sent, sent_by, received_on, requested_o
 use option_rules::Command;
 use option_sides::{Answered, Sides};
 use option_verbs::{Outgoing, Whose};
+use refusal::Refusal;
 use telnet::{Kind, Verb};
-use telnet_reader::Answer;
 
-// The sides afterwards; a number that is 0, a note or a refusal; and the place after what was put on the line.
+// The sides afterwards; a refusal, or the note `OffAnsweredByOn`; and the place after what was put on the line.
 #[derive(Clone, Copy)]
 pub struct Sent {
     pub sides: Sides,
-    pub number: u8,
+    pub refusal: Option<Refusal>,
     pub place: usize,
 }
 
-fn after(sides: Sides, number: u8, place: usize) -> Sent
-    ensures { result ≡ sent sides number place }
+fn after(sides: Sides, refusal: Option<Refusal>, place: usize) -> Sent
+    ensures { result ≡ sent sides refusal place }
 {
     Sent {
         sides,
-        number,
+        refusal,
         place,
     }
 }
 
-// An option command has three bytes.
-fn command_bytes(verb: Verb, option: u8) -> [u8; 3]
-    ensures { result ≡ written (negotiation verb option) }
+// An option command has three bytes, for which there is room: the writer refuses nothing.
+fn command_bytes(command: Outgoing) -> [u8; 3]
+    ensures { result ≡ written (negotiation command.verb command.option) }
 {
     let mut bytes = [0u8; 3];
-    telnet_writer::write(Kind::Negotiation(verb, option), b"", &mut bytes);
+    let _ = telnet_writer::write(
+        Kind::Negotiation(command.verb, command.option),
+        b"",
+        &mut bytes,
+    );
     bytes
 }
 
@@ -45,37 +49,19 @@ fn command_bytes(verb: Verb, option: u8) -> [u8; 3]
 fn send(sides: Sides, answered: Answered, line: &mut [u8], at: usize) -> Sent
     ensures { outcome result line.new ≡ sent_by sides answered line.old at }
 {
-    let stepped = answered.sides;
-    let number = answered.number;
-    let writes = answered.writes;
-    match writes {
-        Outgoing::Nothing => {
-            return Sent {
-                sides: stepped,
-                number,
-                place: at,
-            };
-        }
-        Outgoing::Command(verb, option) => {
-            if octets::put(&command_bytes(verb, option), line, at) {
-                return Sent {
-                    sides: stepped,
-                    number,
-                    place: at + 3,
-                };
-            }
-            return Sent {
-                sides,
-                number: refusal::NO_ROOM,
-                place: at,
-            };
-        }
+    let Some(command) = answered.writes else {
+        return after(answered.sides, answered.refusal, at);
+    };
+    if octets::put(&command_bytes(command), line, at) {
+        return after(answered.sides, answered.refusal, at + 3);
     }
+    after(sides, Some(Refusal::NoRoom), at)
 }
 
 // WILL, WONT, DO or DONT was received, with its option byte; on is accepted or declined where that is open. The answer
 // goes on the line at a place. A place past the end is 5, and an answer that does not fit 4: then sides and line are as
 // they were.
+#[tactic(auto, unfolding(crate::specs::Line::received_on, crate::specs::Line::unless_past))]
 pub fn receive(
     sides: Sides,
     verb: Verb,
@@ -87,13 +73,14 @@ pub fn receive(
     ensures { outcome result line.new ≡ received_on sides verb option accept line.old at }
 {
     if line.len() < at {
-        return after(sides, refusal::PAST_THE_END, at);
+        return after(sides, Some(Refusal::PastTheEnd), at);
     }
     let answered = sides.receive(verb, option, accept);
     send(sides, answered, line, at)
 }
 
 // This end asks for a side to be on or off. The command goes on the line in the same way.
+#[tactic(auto, unfolding(crate::specs::Line::requested_on, crate::specs::Line::unless_past))]
 pub fn request(
     sides: Sides,
     whose: Whose,
@@ -105,14 +92,14 @@ pub fn request(
     ensures { outcome result line.new ≡ requested_on sides whose option command line.old at }
 {
     if line.len() < at {
-        return after(sides, refusal::PAST_THE_END, at);
+        return after(sides, Some(Refusal::PastTheEnd), at);
     }
     let answered = sides.request(whose, option, command);
     send(sides, answered, line, at)
 }
 
 // This end hears an event that was read, and answers it on its line if it is an option command, as `receive` does. Any
-// other concerns no option: the answer is 0, with sides, line and place as they are.
+// other concerns no option: nothing is refused, and sides, line and place are as they were.
 pub fn hear_event(sides: Sides, kind: Kind, accept: bool, line: &mut [u8], at: usize) -> Sent
     ensures { outcome result line.new ≡ heard_event sides kind accept line.old at }
 {
@@ -120,14 +107,13 @@ pub fn hear_event(sides: Sides, kind: Kind, accept: bool, line: &mut [u8], at: u
         Kind::Negotiation(verb, option) => {
             return receive(sides, verb, option, accept, line, at);
         }
-        Kind::Data => return after(sides, 0, at),
-        Kind::Command(_) => return after(sides, 0, at),
-        Kind::Subnegotiation(_) => return after(sides, 0, at),
+        _ => return after(sides, None, at),
     }
 }
 
 // This end hears what is at a place of the other's line, and answers it on its own line if it is an option command.
-// A place past the end of either line is 5; what cannot be read is refused by the reader's number.
+// A place past the end of either line is 5; what cannot be read is refused as the reader does.
+#[tactic(auto, unfolding(crate::specs::Line::heard_on, crate::specs::Line::unless_past))]
 pub fn hear(
     sides: Sides,
     heard: &[u8],
@@ -139,15 +125,11 @@ pub fn hear(
     ensures { outcome result line.new ≡ heard_on sides heard.now from accept line.old at }
 {
     if line.len() < at {
-        return after(sides, refusal::PAST_THE_END, at);
+        return after(sides, Some(Refusal::PastTheEnd), at);
     }
     match telnet_reader::look(heard, from) {
-        Answer::Found {
-            kind,
-            length: _,
-            next: _,
-        } => return hear_event(sides, kind, accept, line, at),
-        Answer::End => return after(sides, 0, at),
-        Answer::Refused(n) => return after(sides, n, at),
+        Ok(Some(found)) => return hear_event(sides, found.kind, accept, line, at),
+        Ok(None) => return after(sides, None, at),
+        Err(refusal) => return after(sides, Some(refusal), at),
     }
 }

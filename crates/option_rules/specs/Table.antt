@@ -1,14 +1,14 @@
 -- The option rules as a table: a row for each state, a column for each call (specification, "Option rules"; RFC 1143,
 -- "The Q Method", where the states are NO, YES, WANTNO with an empty or an opposite queue, and WANTYES with an empty or
 -- an opposite queue).
-use Rattle.std.specs.Prelude.{ℕ, Bool, true, false, eqb, if◌then◌else◌}
+use Rattle.std.specs.Prelude.{ℕ, Bool, true, false, eqb, if◌then◌else◌, None, Some}
 use Rattle.option_rules.specs.declared.Command.{Command}
 use Rattle.option_rules.specs.declared.Command.TheVariants.{On as on, Off as off}
 use Rattle.option_rules.specs.declared.Side.{Side}
 use Rattle.option_rules.specs.declared.Side.TheVariants.{Off, On, WantOff, WantOffThenOn, WantOn, WantOnThenOff}
-use Rattle.option_rules.specs.declared.Sending.TheVariants.{Nothing, Command as Sends}
 use Rattle.option_rules.specs.declared.Step.{Step}
-use Rattle.refusal.specs.Refusal.{not_carried, already_so, under_way, already_queued, off_answered_by_on}
+use Rattle.refusal.specs.declared.Refusal.{Refusal}
+use Rattle.refusal.specs.declared.Refusal.TheVariants.{NotCarried, AlreadySo, UnderWay, AlreadyQueued, OffAnsweredByOn}
 
 -- a cell: the successor alone, with a command to send, or with a note; or a refusal
 infix 6 ◌send◌
@@ -16,8 +16,8 @@ infix 6 ◌note◌
 pub data Cell : Type 0 where
   to : Side → Cell
   ◌send◌ : Side → Command → Cell
-  ◌note◌ : Side → ℕ → Cell
-  refuse : ℕ → Cell
+  ◌note◌ : Side → Refusal → Cell
+  refuse : Refusal → Cell
 
 infix 5 accept◌decline◌
 abbrev pub accept◌decline◌ : Cell → Cell → Bool → Cell
@@ -37,27 +37,27 @@ pub record Row : Type 0 where
 abbrev pub row : (Bool → Cell) → Cell → Cell → Cell → Row
 row a b c d = record { receive_on = a; receive_off = b; request_on = c; request_off = d }
 
--- For an option that is carried: the specification's table, row by row. already_so is 11, under_way 12, already_queued 13,
--- off_answered_by_on 14.
+-- For an option that is carried: the specification's table, row by row. AlreadySo is 11, UnderWay 12, AlreadyQueued 13,
+-- OffAnsweredByOn 14.
 abbrev pub table : Side → Row
 -- | State | receive on | receive off | request on | request off |
 -- | Off | accept: On, send on; decline: Off, send off | Off | WantOn, send on | 11 |
-table Off = row (accept On send on decline Off send off) (to Off) (WantOn send on) (refuse already_so)
+table Off = row (accept On send on decline Off send off) (to Off) (WantOn send on) (refuse AlreadySo)
 -- | On | On | Off, send off | 11 | WantOff, send off |
-table On = row (both (to On)) (Off send off) (refuse already_so) (WantOff send off)
+table On = row (both (to On)) (Off send off) (refuse AlreadySo) (WantOff send off)
 -- | WantOff | Off, note 14 | Off | WantOffThenOn | 12 |
-table WantOff = row (both (Off note off_answered_by_on)) (to Off) (to WantOffThenOn) (refuse under_way)
+table WantOff = row (both (Off note OffAnsweredByOn)) (to Off) (to WantOffThenOn) (refuse UnderWay)
 -- | WantOffThenOn | On, note 14 | WantOn, send on | 13 | WantOff |
-table WantOffThenOn = row (both (On note off_answered_by_on)) (WantOn send on) (refuse already_queued) (to WantOff)
+table WantOffThenOn = row (both (On note OffAnsweredByOn)) (WantOn send on) (refuse AlreadyQueued) (to WantOff)
 -- | WantOn | On | Off | 12 | WantOnThenOff |
-table WantOn = row (both (to On)) (to Off) (refuse under_way) (to WantOnThenOff)
+table WantOn = row (both (to On)) (to Off) (refuse UnderWay) (to WantOnThenOff)
 -- | WantOnThenOff | WantOff, send off | Off | WantOn | 13 |
-table WantOnThenOff = row (both (WantOff send off)) (to Off) (to WantOn) (refuse already_queued)
+table WantOnThenOff = row (both (WantOff send off)) (to Off) (to WantOn) (refuse AlreadyQueued)
 
 -- For one that is not: "on is answered off, off is answered by silence, and its state is always off"; a request is
 -- refused with 10.
 abbrev pub untouched : Side → Row
-untouched s = row (both (Off send off)) (to Off) (refuse not_carried) (refuse not_carried)
+untouched s = row (both (Off send off)) (to Off) (refuse NotCarried) (refuse NotCarried)
 
 -- TRANSMIT-BINARY, SUPPRESS-GO-AHEAD, TERMINAL-TYPE, END-OF-RECORD, NEW-ENVIRON
 abbrev pub binary : ℕ
@@ -93,10 +93,10 @@ rules_of o = if carried o then table else untouched
 
 -- what a call gives a side whose cell this is: a refusal hands the state back as it was given, with nothing to send
 abbrev pub step_by : Side → Cell → Step
-step_by s (to t) = record { side = t; number = 0; sends = Nothing }
-step_by s (t send c) = record { side = t; number = 0; sends = Sends c }
-step_by s (t note n) = record { side = t; number = n; sends = Nothing }
-step_by s (refuse n) = record { side = s; number = n; sends = Nothing }
+step_by s (to t) = record { side = t; refusal = None; sends = None }
+step_by s (t send c) = record { side = t; refusal = None; sends = Some c }
+step_by s (t note e) = record { side = t; refusal = Some e; sends = None }
+step_by s (refuse e) = record { side = s; refusal = Some e; sends = None }
 
 -- what a side gives when it receives on or off, and when on or off is requested of it
 abbrev pub on_receive : (Side → Row) → Side → Bool → Command → Step

@@ -3,9 +3,10 @@
 #![tactic(auto)]
 
 ghost use Rattle.std.specs.Prelude.{◌≡◌};
-ghost use Rattle.option_rules.specs.Table.{step_by, rules_of, on_receive, on_request};
+ghost use Rattle.option_rules.specs.Table.{to, ◌send◌, ◌note◌, refuse, step_by, rules_of, on_receive, on_request};
 ghost use Rattle.option_rules.specs.Table as table;
-ghost use Rattle.option_rules.specs.Internal.Sends.{sending_of};
+
+use refusal::Refusal;
 
 // The options that are carried.
 pub const BINARY: u8 = 0;
@@ -36,78 +37,89 @@ pub enum Side {
     WantOnThenOff,
 }
 
-#[derive(Clone, Copy)]
-pub enum Sending {
-    Nothing,
-    Command(Command),
-}
-
-// What a call of a side gives: its successor; a refusal, a note or 0; and what is to be sent.
+// What a call of a side gives: its successor; a refusal, or the note `OffAnsweredByOn`; and what is to be sent.
 #[derive(Clone, Copy)]
 pub struct Step {
     pub side: Side,
-    pub number: u8,
-    pub sends: Sending,
+    pub refusal: Option<Refusal>,
+    pub sends: Option<Command>,
 }
 
-// What a cell of the table sends, by number: a call is then cheaper to prove than with the value.
-const NOTHING: u8 = 0;
-
-const ON: u8 = 1;
-
-const OFF: u8 = 2;
-
 // Whether an option is one of the five.
+#[tactic(auto, unfolding(crate::specs::Table::carried, crate::specs::Table::choose))]
 pub fn carried(option: u8) -> bool
     ensures { result ≡ table.carried option }
 {
-    match option {
-        BINARY => true,
-        SUPPRESS_GO_AHEAD => true,
-        TERMINAL_TYPE => true,
-        END_OF_RECORD => true,
-        NEW_ENVIRON => true,
-        _ => false,
-    }
+    matches!(
+        option,
+        BINARY | SUPPRESS_GO_AHEAD | TERMINAL_TYPE | END_OF_RECORD | NEW_ENVIRON
+    )
 }
 
-// A cell of the table: the successor, a refusal, a note or 0, and what is sent.
-fn cell(side: Side, number: u8, sends: u8) -> Step
-    ensures { result ≡ record { side = side; number = number; sends = sending_of sends } }
+// The cells of the table: the successor alone, with a command to send, or with a note; or a refusal, which hands the
+// side back as it is.
+fn to(side: Side) -> Step
+    ensures { result ≡ step_by side (to side) }
 {
-    let sends = match sends {
-        NOTHING => Sending::Nothing,
-        ON => Sending::Command(Command::On),
-        _ => Sending::Command(Command::Off),
-    };
     Step {
         side,
-        number,
-        sends,
+        refusal: None,
+        sends: None,
     }
 }
 
+fn send(side: Side, command: Command) -> Step
+    ensures { result ≡ step_by side (side send command) }
+{
+    Step {
+        side,
+        refusal: None,
+        sends: Some(command),
+    }
+}
+
+fn note(side: Side, what: Refusal) -> Step
+    ensures { result ≡ step_by side (side note what) }
+{
+    Step {
+        side,
+        refusal: Some(what),
+        sends: None,
+    }
+}
+
+fn refuse(side: Side, refusal: Refusal) -> Step
+    ensures { result ≡ step_by side (refuse refusal) }
+{
+    Step {
+        side,
+        refusal: Some(refusal),
+        sends: None,
+    }
+}
+
+#[tactic(auto, using(crate::proofs::Chosen::by_table, crate::proofs::Chosen::by_none))]
 impl Side {
     // The other end says on; it is accepted or declined where that is open.
     pub fn receive_on(self, option: u8, accept: bool) -> Step
         ensures { result ≡ step_by self ((rules_of option self).receive_on accept) }
     {
         if !carried(option) {
-            return cell(Side::Off, 0, OFF);
+            return send(Side::Off, Command::Off);
         }
         match self {
             Side::Off => {
                 if accept {
-                    cell(Side::On, 0, ON)
+                    send(Side::On, Command::On)
                 } else {
-                    cell(Side::Off, 0, OFF)
+                    send(Side::Off, Command::Off)
                 }
             }
-            Side::On => cell(Side::On, 0, NOTHING),
-            Side::WantOff => cell(Side::Off, refusal::OFF_ANSWERED_BY_ON, NOTHING),
-            Side::WantOffThenOn => cell(Side::On, refusal::OFF_ANSWERED_BY_ON, NOTHING),
-            Side::WantOn => cell(Side::On, 0, NOTHING),
-            Side::WantOnThenOff => cell(Side::WantOff, 0, OFF),
+            Side::On => to(Side::On),
+            Side::WantOff => note(Side::Off, Refusal::OffAnsweredByOn),
+            Side::WantOffThenOn => note(Side::On, Refusal::OffAnsweredByOn),
+            Side::WantOn => to(Side::On),
+            Side::WantOnThenOff => send(Side::WantOff, Command::Off),
         }
     }
 
@@ -116,15 +128,15 @@ impl Side {
         ensures { result ≡ step_by self (rules_of option self).receive_off }
     {
         if !carried(option) {
-            return cell(Side::Off, 0, NOTHING);
+            return to(Side::Off);
         }
         match self {
-            Side::Off => cell(Side::Off, 0, NOTHING),
-            Side::On => cell(Side::Off, 0, OFF),
-            Side::WantOff => cell(Side::Off, 0, NOTHING),
-            Side::WantOffThenOn => cell(Side::WantOn, 0, ON),
-            Side::WantOn => cell(Side::Off, 0, NOTHING),
-            Side::WantOnThenOff => cell(Side::Off, 0, NOTHING),
+            Side::Off => to(Side::Off),
+            Side::On => send(Side::Off, Command::Off),
+            Side::WantOff => to(Side::Off),
+            Side::WantOffThenOn => send(Side::WantOn, Command::On),
+            Side::WantOn => to(Side::Off),
+            Side::WantOnThenOff => to(Side::Off),
         }
     }
 
@@ -133,15 +145,15 @@ impl Side {
         ensures { result ≡ step_by self (rules_of option self).request_on }
     {
         if !carried(option) {
-            return cell(self, refusal::NOT_CARRIED, NOTHING);
+            return refuse(self, Refusal::NotCarried);
         }
         match self {
-            Side::Off => cell(Side::WantOn, 0, ON),
-            Side::On => cell(self, refusal::ALREADY_SO, NOTHING),
-            Side::WantOff => cell(Side::WantOffThenOn, 0, NOTHING),
-            Side::WantOffThenOn => cell(self, refusal::ALREADY_QUEUED, NOTHING),
-            Side::WantOn => cell(self, refusal::UNDER_WAY, NOTHING),
-            Side::WantOnThenOff => cell(Side::WantOn, 0, NOTHING),
+            Side::Off => send(Side::WantOn, Command::On),
+            Side::On => refuse(self, Refusal::AlreadySo),
+            Side::WantOff => to(Side::WantOffThenOn),
+            Side::WantOffThenOn => refuse(self, Refusal::AlreadyQueued),
+            Side::WantOn => refuse(self, Refusal::UnderWay),
+            Side::WantOnThenOff => to(Side::WantOn),
         }
     }
 
@@ -150,15 +162,15 @@ impl Side {
         ensures { result ≡ step_by self (rules_of option self).request_off }
     {
         if !carried(option) {
-            return cell(self, refusal::NOT_CARRIED, NOTHING);
+            return refuse(self, Refusal::NotCarried);
         }
         match self {
-            Side::Off => cell(self, refusal::ALREADY_SO, NOTHING),
-            Side::On => cell(Side::WantOff, 0, OFF),
-            Side::WantOff => cell(self, refusal::UNDER_WAY, NOTHING),
-            Side::WantOffThenOn => cell(Side::WantOff, 0, NOTHING),
-            Side::WantOn => cell(Side::WantOnThenOff, 0, NOTHING),
-            Side::WantOnThenOff => cell(self, refusal::ALREADY_QUEUED, NOTHING),
+            Side::Off => refuse(self, Refusal::AlreadySo),
+            Side::On => send(Side::WantOff, Command::Off),
+            Side::WantOff => refuse(self, Refusal::UnderWay),
+            Side::WantOffThenOn => to(Side::WantOff),
+            Side::WantOn => to(Side::WantOnThenOff),
+            Side::WantOnThenOff => refuse(self, Refusal::AlreadyQueued),
         }
     }
 

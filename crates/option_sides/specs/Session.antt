@@ -57,7 +57,7 @@ with_side s w o x = with_pair s o (in_pair (pair_at s o) w x)
 
 -- what a step of one side gives the session
 abbrev pub answered_by : Sides → Whose → ℕ → Step → Answered
-answered_by s w o d = record { sides = with_side s w o d.side; number = d.number; writes = command_for w o d.sends }
+answered_by s w o d = record { sides = with_side s w o d.side; refusal = d.refusal; writes = command_for w o d.sends }
 
 abbrev pub received : Sides → Verb → ℕ → Bool → Answered
 received s v o accept = let w = (told_by v).whose in answered_by s w o (on_receive (rules_of o) (side_at s w o) accept (told_by v).command)

@@ -6,6 +6,7 @@ mod session;
 
 use option_rules::Side;
 use option_verbs::Outgoing;
+use refusal::Refusal;
 
 // The two sides of one option.
 #[derive(Clone, Copy)]
@@ -24,10 +25,11 @@ pub struct Sides {
     pub environ: Pair,
 }
 
-// What a call of a session's sides gives: their successors; a refusal, a note or 0; and what is to be written.
+// What a call of a session's sides gives: their successors; a refusal, or the note `OffAnsweredByOn`; and what is to be
+// written.
 #[derive(Clone, Copy)]
 pub struct Answered {
     pub sides: Sides,
-    pub number: u8,
-    pub writes: Outgoing,
+    pub refusal: Option<Refusal>,
+    pub writes: Option<Outgoing>,
 }

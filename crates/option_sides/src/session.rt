@@ -4,7 +4,7 @@ ghost use Rattle.option_sides.specs.Session.{of_pair, in_pair, pair_at, with_pai
 
 use crate::{Answered, Pair, Sides};
 use option_rules::{Command, Side, Step};
-use option_verbs::Whose;
+use option_verbs::{Told, Whose};
 use telnet::Verb;
 
 const BOTH_OFF: Pair = Pair {
@@ -25,11 +25,12 @@ impl Pair {
     fn with(self, whose: Whose, side: Side) -> Pair
         ensures { result ≡ in_pair self whose side }
     {
-        let ours = self.ours;
-        let other = self.other;
         match whose {
-            Whose::Ours => Pair { ours: side, other },
-            Whose::Other => Pair { ours, other: side },
+            Whose::Ours => Pair { ours: side, ..self },
+            Whose::Other => Pair {
+                other: side,
+                ..self
+            },
         }
     }
 }
@@ -48,6 +49,7 @@ impl Sides {
         }
     }
 
+    #[tactic(auto, unfolding(crate::specs::Session::pair_at, option_rules::specs::Table::choose))]
     fn pair(self, option: u8) -> Pair
         ensures { result ≡ pair_at self option }
     {
@@ -61,6 +63,7 @@ impl Sides {
         }
     }
 
+    #[tactic(auto, unfolding(crate::specs::Session::with_pair, option_rules::specs::Table::choose))]
     fn with(mut self, option: u8, pair: Pair) -> Sides
         ensures { result ≡ with_pair self option pair }
     {
@@ -86,13 +89,11 @@ impl Sides {
     fn stepped(self, whose: Whose, option: u8, step: Step) -> Answered
         ensures { result ≡ answered_by self whose option step }
     {
-        let side = step.side;
-        let sends = step.sends;
-        let pair = self.pair(option).with(whose, side);
+        let pair = self.pair(option).with(whose, step.side);
         Answered {
             sides: self.with(option, pair),
-            number: step.number,
-            writes: option_verbs::command_for(whose, option, sends),
+            refusal: step.refusal,
+            writes: option_verbs::command_for(whose, option, step.sends),
         }
     }
 
@@ -100,9 +101,7 @@ impl Sides {
     pub fn receive(self, verb: Verb, option: u8, accept: bool) -> Answered
         ensures { result ≡ received self verb option accept }
     {
-        let told = option_verbs::told_by(verb);
-        let whose = told.whose;
-        let command = told.command;
+        let Told { whose, command } = option_verbs::told_by(verb);
         let side = self.side(whose, option);
         self.stepped(whose, option, side.receive(option, command, accept))
     }

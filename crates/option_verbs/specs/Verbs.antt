@@ -1,7 +1,7 @@
 -- "On" and "off" as the option commands of the line: "On means WILL or DO and off WONT or DONT, as the side has it"
 -- (specification, "Option rules"). Who sends WILL or WONT speaks of his own side, who sends DO or DONT of the other's
 -- (RFC 854, "TELNET COMMAND STRUCTURE").
-use Rattle.std.specs.Prelude.{◌≡◌, ℕ}
+use Rattle.std.specs.Prelude.{◌≡◌, ℕ, Option, None, Some}
 use Rattle.telnet.specs.declared.Verb.{Verb}
 use Rattle.telnet.specs.declared.Verb.TheVariants.{Will, Wont, Do, Dont}
 use Rattle.option_rules.specs.declared.Command.{Command}
@@ -9,10 +9,7 @@ use Rattle.option_rules.specs.declared.Command.TheVariants.{On as on, Off as off
 use Rattle.option_verbs.specs.declared.Whose.{Whose}
 use Rattle.option_verbs.specs.declared.Whose.TheVariants.{Ours, Other}
 use Rattle.option_verbs.specs.declared.Told.{Told}
-use Rattle.option_rules.specs.declared.Sending.{Sending}
-use Rattle.option_rules.specs.declared.Sending.TheVariants.{Nothing, Command as Sends}
 use Rattle.option_verbs.specs.declared.Outgoing.{Outgoing}
-use Rattle.option_verbs.specs.declared.Outgoing.TheVariants.{Nothing as NoCommand, Command as OptionCommand}
 
 abbrev pub told : Whose → Command → Told
 told w c = record { whose = w; command = c }
@@ -31,10 +28,13 @@ verb_for Ours off = Wont
 verb_for Other on = Do
 verb_for Other off = Dont
 
+abbrev pub outgoing : Verb → ℕ → Outgoing
+outgoing v o = record { verb = v; option = o }
+
 -- the option command that is to be written for what a side sends
-abbrev pub command_for : Whose → ℕ → Sending → Outgoing
-command_for w option Nothing = NoCommand
-command_for w option (Sends c) = OptionCommand (verb_for w c) option
+abbrev pub command_for : Whose → ℕ → Option Command → Option Outgoing
+command_for w option None = None
+command_for w option (Some c) = Some (outgoing (verb_for w c) option)
 
 -- one side, as the other end sees it
 abbrev pub facing : Whose → Whose

@@ -4,7 +4,7 @@
 ghost use Rattle.std.specs.Prelude.{◌≡◌};
 ghost use Rattle.option_verbs.specs.Verbs.{told_by, verb_for, command_for};
 
-use option_rules::{Command, Sending};
+use option_rules::Command;
 use telnet::Verb;
 
 // Whose side of an option: ours, which WILL and WONT speak of when we send them, or the other end's.
@@ -21,11 +21,11 @@ pub struct Told {
     pub command: Command,
 }
 
-// The option command that is to be written, if any, with its option byte.
+// An option command that is to be written, with its option byte.
 #[derive(Clone, Copy)]
-pub enum Outgoing {
-    Nothing,
-    Command(Verb, u8),
+pub struct Outgoing {
+    pub verb: Verb,
+    pub option: u8,
 }
 
 // What a command that was received says, and of which side.
@@ -68,12 +68,12 @@ pub fn verb_for(whose: Whose, command: Command) -> Verb
     }
 }
 
-// The option command that carries what a side sends.
-pub fn command_for(whose: Whose, option: u8, sends: Sending) -> Outgoing
+// The option command that carries what a side sends, if it sends anything.
+pub fn command_for(whose: Whose, option: u8, sends: Option<Command>) -> Option<Outgoing>
     ensures { result ≡ command_for whose option sends }
 {
-    match sends {
-        Sending::Nothing => Outgoing::Nothing,
-        Sending::Command(command) => Outgoing::Command(verb_for(whose, command), option),
-    }
+    sends.map(|command| Outgoing {
+        verb: verb_for(whose, command),
+        option,
+    })
 }

@@ -1,5 +1,5 @@
 -- What the definitions say at each way out of the functions. Assumes nothing.
-use Rattle.std.specs.Prelude.{if◌then◌else◌}
+use Rattle.std.specs.Prelude.{if◌then◌else◌, Result, Ok, Err}
 use mathlib.Core.Path.{◌≡◌, refl, sym, ap, ◌∙◌}
 use mathlib.Core.Bool.{Bool, true, false, not, ◌&&◌, and-eq-true_iff, and-false}
 use mathlib.Core.List.{List}
@@ -11,48 +11,44 @@ use lib.ListN.{length, take}
 use lib.Seq.{take_all}
 use Rattle.octets.specs.Bytes.{Bytes}
 use Rattle.octets.specs.Same.{same}
+use Rattle.refusal.specs.declared.Refusal.{Refusal}
 use Rattle.words.specs.BigEndian.{number, bytes}
 use Rattle.words.proofs.BigEndian.{bytes-number}
 use Rattle.names.specs.Name.{is_name, profile_limit}
-use Rattle.password_des.specs.declared.Block.{Block}
-use Rattle.password_des.specs.declared.Block.TheVariants.{Value, Refused}
 use Rattle.password_des.specs.Answer.{des_substitute}
-use Rattle.password_sha.specs.declared.Hash.{Hash}
 use Rattle.password_sha.specs.Sha as Sha
 use Rattle.password_sha.specs.Answer.{sha_token, sha_substitute}
 use Rattle.password_check.specs.Gives.{seed_length, des_length, sha_length, gives_clear, are_seeds, gives_des, gives_sha}
 
--- whether an answer that may be a refusal is what was offered
-abbrev pub hash_gives : Hash → List ℕ → Bool
-hash_gives h offered = eqb h.refusal 0 && same h.bytes offered
+-- whether an answer, unless it is a refusal, has the bytes that were offered
+abbrev pub gives : {A : Type 0} → (A → List ℕ) → Result A Refusal → List ℕ → Bool
+gives written (Ok x) offered = same (written x) offered
+gives written (Err e) offered = false
 
-abbrev pub block_gives : Block → List ℕ → Bool
-block_gives (Value x) offered = same (bytes 8 x) offered
-block_gives (Refused number) offered = false
+abbrev pub hash_gives : Result (List ℕ) Refusal → List ℕ → Bool
+hash_gives = gives (λ bytes. bytes)
 
-pub hash-refused : (h : Hash) (offered : List ℕ) → (h.refusal ≡ 0 → ⊥) → false ≡ hash_gives h offered
-hash-refused h offered e = rw (ne_eqb h.refusal 0 e)
+abbrev pub block_gives : Result ℕ Refusal → List ℕ → Bool
+block_gives = gives (bytes 8)
 
-pub hash-compared : (h : Hash) (offered : List ℕ) → h.refusal ≡ 0 → same h.bytes offered ≡ hash_gives h offered
-hash-compared h offered e = rw (eq-eqb h.refusal 0 e)
+module _ {A : Type 0} (written : A → List ℕ) (r : Result A Refusal) (offered : List ℕ) where
+  pub refused : (e : Refusal) → r ≡ Err e → false ≡ gives written r offered
+  refused e h = rw h
 
-pub block_refused : (b : Block) (number : ℕ) (offered : List ℕ) → b ≡ Refused number → false ≡ block_gives b offered
-block_refused b number offered e = rw e
-
-pub block-compared : (b : Block) (x : ℕ) (l offered : List ℕ) → b ≡ Value x → l ≡ bytes 8 x → same l offered ≡ block_gives b offered
-block-compared b x l offered e f = rw (e, f)
+  pub compared : (x : A) → r ≡ Ok x → same (written x) offered ≡ gives written r offered
+  compared x h = rw h
 
 -- a test before an answer, which is refused where it fails
-unless : {A : Type 0} (gives : A → Bool) (t : Bool) {refused answer : A} {b : Bool} → gives refused ≡ false → gives answer ≡ b
-    → gives (if not t then refused else answer) ≡ (t && b)
-unless gives true e f = f
-unless gives false e f = e
+unless : {A : Type 0} (g : A → Bool) (t : Bool) {refused answer : A} {b : Bool} → g refused ≡ false → g answer ≡ b
+    → g (if not t then refused else answer) ≡ (t && b)
+unless g true e f = f
+unless g false e f = e
 
 pub clear-given : (token name offered : List ℕ) → hash_gives (sha_token name offered) token ≡ gives_clear token name offered
 unfolding sha_token gives_clear
 clear-given token name offered =
-    let gives : Hash → Bool = λ h. hash_gives h token in
-    unless gives (is_name profile_limit name) refl (unless gives (Sha.is_password offered) refl refl)
+    let g : Result (List ℕ) Refusal → Bool = λ h. hash_gives h token in
+    unless g (is_name profile_limit name) refl (unless g (Sha.is_password offered) refl refl)
 
 -- the tests that both substitutes have before anything is compared
 abbrev tested : ℕ → (token s k : List ℕ) → Bool → Bool
@@ -83,9 +79,9 @@ module _ (token name s k offered : List ℕ) (seeds : Bool) (e : seeds ≡ are_s
       (eqb-true (length s) seed_length both.0, eqb-true (length k) seed_length both.1)
 
   -- an answer after those tests that only a bad name refuses
-  named : {A : Type 0} (gives : A → Bool) (n : ℕ) {refused answer : A} {b : Bool} → length token ≡ n → gives refused ≡ false → gives answer ≡ b
-      → gives (if not (is_name profile_limit name) then refused else answer) ≡ tested n token s k (is_name profile_limit name && b)
-  named gives n h r a = unless gives (is_name profile_limit name) r a ∙ passed n token s k _ seeds e f h
+  named : {A : Type 0} (g : A → Bool) (n : ℕ) {refused answer : A} {b : Bool} → length token ≡ n → g refused ≡ false → g answer ≡ b
+      → g (if not (is_name profile_limit name) then refused else answer) ≡ tested n token s k (is_name profile_limit name && b)
+  named g n h r a = unless g (is_name profile_limit name) r a ∙ passed n token s k _ seeds e f h
 
   pub des-given : length token ≡ des_length
       → block_gives (des_substitute (number (take 8 token)) name (number (take 8 s)) (number (take 8 k))) offered ≡ gives_des token name s k offered

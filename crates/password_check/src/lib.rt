@@ -1,11 +1,9 @@
-// Whether what a client offers is what a stored token gives. No token is handed out: a refused hash is twenty zeros,
-// and zeros may be stored. What is right is said in `specs/Gives.antt`.
+// Whether what a client offers is what a stored token gives. No token is handed out, and a refusal gives nothing. What
+// is right is said in `specs/Gives.antt`.
 #![tactic(auto)]
 
 ghost use Rattle.std.specs.Prelude.{◌≡◌};
 ghost use Rattle.password_check.specs.Gives.{gives_clear, are_seeds, gives_des, gives_sha};
-
-use password_des::Block;
 
 // How long tokens and substitutes by DES and by SHA-1 are, and a seed.
 pub const DES_LENGTH: usize = 8;
@@ -18,12 +16,10 @@ pub const SEED_LENGTH: usize = 8;
 pub fn gives_clear(token: &[u8], name: &[u8], offered: &[u8]) -> bool
     ensures { result ≡ gives_clear token.now name.now offered.now }
 {
-    let hash = password_sha::sha_token(name, offered);
-    if hash.refusal != 0 {
-        return false;
+    match password_sha::sha_token(name, offered) {
+        Ok(given) => octets::same(&given, token),
+        Err(_) => false,
     }
-    let given = hash.bytes;
-    octets::same(&given, token)
 }
 
 // Whether two texts have the length of a seed.
@@ -55,11 +51,10 @@ pub fn gives_des(
     let block = words::word_64(token);
     let server = words::word_64(server_seed);
     let client = words::word_64(client_seed);
-    let answer = password_des::des_substitute(block, name, server, client);
-    match answer {
-        Block::Refused(_) => false,
-        Block::Value(substitute) => octets::same(&words::bytes_64(substitute), offered),
-    }
+    let Ok(substitute) = password_des::des_substitute(block, name, server, client) else {
+        return false;
+    };
+    octets::same(&words::bytes_64(substitute), offered)
 }
 
 // Whether the offered bytes are the substitute by SHA-1 of the stored token, under two seeds.
@@ -72,20 +67,16 @@ pub fn gives_sha(
 ) -> bool
     ensures { result ≡ gives_sha token.now name.now server_seed.now client_seed.now offered.now }
 {
-    if token.len() != SHA_LENGTH {
+    let Ok(bytes) = <[u8; SHA_LENGTH]>::try_from(token) else {
         return false;
-    }
+    };
     if !are_seeds(server_seed, client_seed) {
         return false;
     }
-    let mut bytes = [0u8; SHA_LENGTH];
-    octets::put(token, &mut bytes, 0);
     let server = words::word_64(server_seed);
     let client = words::word_64(client_seed);
-    let answer = password_sha::sha_substitute(bytes, name, server, client);
-    if answer.refusal != 0 {
+    let Ok(substitute) = password_sha::sha_substitute(bytes, name, server, client) else {
         return false;
-    }
-    let substitute = answer.bytes;
+    };
     octets::same(&substitute, offered)
 }

@@ -9,12 +9,7 @@ ghost use Rattle.password_des.specs.Des.{pair, folded_byte, folded, user_id, SHI
 ghost use Rattle.password_des.specs.Answer.{des_token, des_substitute};
 ghost use Rattle.des.specs.Cipher.{enciphered};
 
-// A token or a substitute, or the number of a refusal.
-#[derive(Clone, Copy)]
-pub enum Block {
-    Value(u64),
-    Refused(u8),
-}
+use refusal::Refusal;
 
 // The most bytes of a password that has a token by DES.
 pub const PASSWORD_LIMIT: usize = 10;
@@ -97,16 +92,16 @@ fn pw_token(password: &[u8], name: &[u8]) -> u64
 }
 
 // The token of a name and a password, or 33 for a bad name, or 34 for a password that DES cannot have.
-pub fn des_token(name: &[u8], password: &[u8]) -> Block
+pub fn des_token(name: &[u8], password: &[u8]) -> Result<u64, Refusal>
     ensures { result ≡ des_token name.now password.now }
 {
     if !names::is_name(name, names::PROFILE_LIMIT) {
-        return Block::Refused(refusal::BAD_PROFILE_NAME);
+        return Err(Refusal::BadProfileName);
     }
     if !names::is_name(password, PASSWORD_LIMIT) {
-        return Block::Refused(refusal::BAD_PASSWORD);
+        return Err(Refusal::BadPassword);
     }
-    Block::Value(pw_token(password, name))
+    Ok(pw_token(password, name))
 }
 
 // The server seed plus the sequence number, which is always 1.
@@ -134,11 +129,16 @@ fn pw_sub(token: u64, name: &[u8], server_seed: u64, client_seed: u64) -> u64
 }
 
 // The substitute that a client sends for a token, or 33 for a bad name.
-pub fn des_substitute(token: u64, name: &[u8], server_seed: u64, client_seed: u64) -> Block
+pub fn des_substitute(
+    token: u64,
+    name: &[u8],
+    server_seed: u64,
+    client_seed: u64,
+) -> Result<u64, Refusal>
     ensures { result ≡ des_substitute token name.now server_seed client_seed }
 {
     if !names::is_name(name, names::PROFILE_LIMIT) {
-        return Block::Refused(refusal::BAD_PROFILE_NAME);
+        return Err(Refusal::BadProfileName);
     }
-    Block::Value(pw_sub(token, name, server_seed, client_seed))
+    Ok(pw_sub(token, name, server_seed, client_seed))
 }

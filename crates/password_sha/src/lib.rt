@@ -8,59 +8,23 @@ ghost use Rattle.words.specs.BigEndian.{bytes};
 ghost use Rattle.names.specs.Name.{raised, is_name, profile_limit};
 ghost use Rattle.names.specs.Padding.{filled};
 ghost use Rattle.names.specs.Range.{every};
-ghost use Rattle.sha1_hash.specs.Sha1.{sha1};
 ghost use Rattle.password_sha.specs.Sha.{unicode, is_printable, is_password, PW-token, substitute_text};
-ghost use Rattle.password_sha.specs.Answer.{hash, no_hash, sha_token, sha_substitute};
+ghost use Rattle.password_sha.specs.Answer.{sha_token, sha_substitute};
 
-// A token or a substitute with refusal 0, or twenty zeros with the number of a refusal.
-#[derive(Clone, Copy)]
-pub struct Hash {
-    pub refusal: u8,
-    pub bytes: [u8; 20],
-}
-
-// The digest of a message, with refusal 0.
-fn hash_of(message: &[u8]) -> Hash
-    ensures { result ≡ hash (sha1 message.now) }
-{
-    Hash {
-        refusal: 0,
-        bytes: sha1_digest::digest(message),
-    }
-}
-
-// Twenty zeros with a refusal.
-fn refused(number: u8) -> Hash
-    ensures { result ≡ no_hash number }
-{
-    Hash {
-        refusal: number,
-        bytes: [0u8; 20],
-    }
-}
+use refusal::Refusal;
 
 // Whether a byte is one of 20X to 7EX.
 fn is_printable(b: u8) -> bool
     ensures { result ≡ is_printable b }
 {
-    if b < 0x20 {
-        return false;
-    }
-    b <= 0x7E
+    matches!(b, 0x20..=0x7E)
 }
 
 // Whether each byte of a text is.
 fn are_printable(text: &[u8]) -> bool
     ensures { result ≡ every is_printable text.now }
 {
-    let mut i = 0;
-    while i < text.len() {
-        if !is_printable(text[i]) {
-            return false;
-        }
-        i += 1;
-    }
-    true
+    text.iter().all(|b| is_printable(*b))
 }
 
 // The most bytes of a password.
@@ -97,38 +61,36 @@ fn put_unicode(text: &[u8], out: &mut [u8], at: usize)
     requires { at + 2 * length text.now ≤ length out.old }
     ensures { out.new ≡ overwrite out.old at (unicode text.now) }
 {
-    let mut i = 0;
-    while i < text.len() {
+    for i in 0..text.len() {
         out[at + 2 * i] = 0;
         out[at + 2 * i + 1] = text[i];
-        i += 1;
     }
 }
 
 // The hash of a name and a password.
-fn token_of(name: &[u8], password: &[u8]) -> Hash
+fn token_of(name: &[u8], password: &[u8]) -> [u8; 20]
     requires { (is_name profile_limit name.now ≡ true) × (length password.now ≤ 128) }
-    ensures { result ≡ hash (PW-token name.now password.now) }
+    ensures { result ≡ PW-token name.now password.now }
 {
     let id = user_id(name);
     let mut message = [0u8; 276];
     put_unicode(&id, &mut message, 0);
     put_unicode(password, &mut message, 20);
     let end = 20 + 2 * password.len();
-    hash_of(&message[0..end])
+    sha1_digest::digest(&message[0..end])
 }
 
 // The token of a name and a password, or 33 for a bad name, or 34 for a bad password.
-pub fn sha_token(name: &[u8], password: &[u8]) -> Hash
+pub fn sha_token(name: &[u8], password: &[u8]) -> Result<[u8; 20], Refusal>
     ensures { result ≡ sha_token name.now password.now }
 {
     if !names::is_name(name, names::PROFILE_LIMIT) {
-        return refused(refusal::BAD_PROFILE_NAME);
+        return Err(Refusal::BadProfileName);
     }
     if !is_password(password) {
-        return refused(refusal::BAD_PASSWORD);
+        return Err(Refusal::BadPassword);
     }
-    token_of(name, password)
+    Ok(token_of(name, password))
 }
 
 // What a substitute is the hash of: token, seeds, name and sequence number.
@@ -147,11 +109,16 @@ fn substituted(token: [u8; 20], name: &[u8], server_seed: u64, client_seed: u64)
 }
 
 // The substitute that a client sends for a token, or 33 for a bad name.
-pub fn sha_substitute(token: [u8; 20], name: &[u8], server_seed: u64, client_seed: u64) -> Hash
+pub fn sha_substitute(
+    token: [u8; 20],
+    name: &[u8],
+    server_seed: u64,
+    client_seed: u64,
+) -> Result<[u8; 20], Refusal>
     ensures { result ≡ sha_substitute token name.now server_seed client_seed }
 {
     if !names::is_name(name, names::PROFILE_LIMIT) {
-        return refused(refusal::BAD_PROFILE_NAME);
+        return Err(Refusal::BadProfileName);
     }
-    hash_of(&substituted(token, name, server_seed, client_seed))
+    Ok(sha1_digest::digest(&substituted(token, name, server_seed, client_seed)))
 }

@@ -17,9 +17,8 @@ use telnet::Kind;
 fn send_request() -> [u8; 24]
     ensures { result ≡ request }
 {
-    let seed = b"\x00\x4C\x01\x19\x02\xFF\x03\xB2";
     let mut payload = *b"\x01\x03IBMRSEED............\x00\x03";
-    octets_marked::put_marked(seed, ESC, VAR, USERVAR, &mut payload, 10);
+    octets_marked::put_marked(&play::SEED, ESC, VAR, USERVAR, &mut payload, 10);
     payload
 }
 
@@ -49,7 +48,7 @@ fn payload() -> [u8; 69]
         0usize, 0, 4, 4, 7, 0, 3, 11, 8, 19, 8, 0, 3, 27, 9, 36, 8, 0, 3, 44, 7, 51, 9, 0,
     ];
     let mut written = [0u8; 69];
-    env_writer::write(0, bytes, &places, &mut written);
+    let _ = env_writer::write(0, bytes, &places, &mut written);
     written
 }
 

@@ -5,6 +5,7 @@ use mathlib.Core.Bool.{Bool, true}
 use mathlib.Core.List.{List}
 use Prim.Native.Nat.{ℕ}
 use lib.ListN.{replicate}
+use Rattle.std.specs.Prelude.{None}
 use Rattle.octets.specs.Lent.{Outcome, outcome, overwrite}
 use Rattle.telnet.specs.Event.{lead}
 use Rattle.telnet.specs.Write.{written, written_all}
@@ -21,7 +22,7 @@ use Rattle.play_options.specs.Internal.Turns.{turns, asked_all, heard_all, all_o
 
 -- the host's side of each option that it asked for
 abbrev pub asking : Sent
-asking = sent (sides (pair WantOn WantOn) both_off (pair Off WantOn) (pair WantOn WantOn) (pair Off WantOn)) 0 18
+asking = sent (sides (pair WantOn WantOn) both_off (pair Off WantOn) (pair WantOn WantOn) (pair Off WantOn)) None 18
 
 pub all_asked : asked_all (replicate 18 0) ≡ outcome asking (written_all requests)
 unfolding turns requested_on unless_past sent_by choose carried rules_of pair_at with_pair written written_all overwrite
@@ -29,15 +30,15 @@ all_asked = refl
 
 -- the printer's sides after its answers
 abbrev pub answering : Sent
-answering = sent (sides (pair On On) both_off (pair On Off) (pair On On) (pair On Off)) 0 18
+answering = sent (sides (pair On On) both_off (pair On Off) (pair On On) (pair On Off)) None 18
 
-pub all-answered : heard_all (sent all_off 0 0) (written_all requests) (replicate 18 0) ≡ outcome answering (written_all given)
+pub all-answered : heard_all (sent all_off None 0) (written_all requests) (replicate 18 0) ≡ outcome answering (written_all given)
 unfolding turns heard_on look_at answered event_of run_or data_run after_iac lead after_lead after_verb received_on unless_past sent_by choose carried rules_of pair_at with_pair written written_all overwrite
 all-answered = refl
 
 -- the host hears them all and has nothing to answer
 abbrev pub resting : Sent
-resting = sent (sides (pair On On) both_off (pair Off On) (pair On On) (pair Off On)) 0 18
+resting = sent (sides (pair On On) both_off (pair Off On) (pair On On) (pair Off On)) None 18
 
 pub all-heard : heard_all asking (written_all given) (written_all requests) ≡ outcome resting (written_all requests)
 unfolding turns heard_on look_at answered event_of run_or data_run after_iac lead after_lead after_verb received_on unless_past sent_by choose carried rules_of pair_at with_pair written written_all overwrite
@@ -48,7 +49,7 @@ unfolding all_on choose pair_at
 all_rest = refl
 
 -- by what each call answers and leaves
-pub exchanged-so : {first asked printer host : Sent} {down up left : List ℕ} {on : Bool} → outcome asked down ≡ asked_all (replicate 18 0) → first ≡ sent all_off 0 0
+pub exchanged-so : {first asked printer host : Sent} {down up left : List ℕ} {on : Bool} → outcome asked down ≡ asked_all (replicate 18 0) → first ≡ sent all_off None 0
     → outcome printer up ≡ heard_all first down (replicate 18 0) → outcome host left ≡ heard_all asked up down → on ≡ all_on 6 0 host.sides
     → ◌≡◌ {A = Commands} (record { down = left; up = up; rests = on }) exchanged
 exchanged-so {down = d} {up = u} asks fresh answers hears on =

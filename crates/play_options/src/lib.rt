@@ -3,7 +3,7 @@
 // said of it goes to standard output, of which no contract speaks.
 #![tactic(auto)]
 
-ghost use Rattle.std.specs.Prelude.{◌≡◌};
+ghost use Rattle.std.specs.Prelude.{◌≡◌, None};
 ghost use Rattle.octets.specs.Lent.{outcome};
 ghost use Rattle.option_line.specs.Line.{sent};
 ghost use Rattle.option_sides.specs.Session.{all_off};
@@ -31,8 +31,7 @@ fn option_at(i: usize) -> u8
     match i {
         0 => option_rules::NEW_ENVIRON,
         1 => option_rules::TERMINAL_TYPE,
-        2 => option_rules::END_OF_RECORD,
-        3 => option_rules::END_OF_RECORD,
+        2 | 3 => option_rules::END_OF_RECORD,
         _ => option_rules::BINARY,
     }
 }
@@ -41,19 +40,18 @@ fn whose_at(i: usize) -> Whose
     ensures { result ≡ whose_at i }
 {
     match i {
-        3 => Whose::Ours,
-        5 => Whose::Ours,
+        3 | 5 => Whose::Ours,
         _ => Whose::Other,
     }
 }
 
 // Before the first command.
 fn nothing_sent() -> Sent
-    ensures { result ≡ sent all_off 0 0 }
+    ensures { result ≡ sent all_off None 0 }
 {
     Sent {
         sides: Sides::fresh(),
-        number: 0,
+        refusal: None,
         place: 0,
     }
 }
@@ -63,18 +61,15 @@ fn ask_all(down: &mut [u8]) -> Sent
     ensures { outcome result down.new ≡ asked_all down.old }
 {
     let mut last = nothing_sent();
-    let mut i = 0;
-    while i < 6 {
-        let sides = last.sides;
+    for i in 0..6 {
         last = option_line::request(
-            sides,
+            last.sides,
             whose_at(i),
             option_at(i),
             Command::On,
             down,
             last.place,
         );
-        i += 1;
     }
     last
 }
@@ -84,11 +79,8 @@ fn hear_all(first: Sent, heard: &[u8], line: &mut [u8]) -> Sent
     ensures { outcome result line.new ≡ heard_all first heard.now line.old }
 {
     let mut last = first;
-    let mut i = 0;
-    while i < 6 {
-        let sides = last.sides;
-        last = option_line::hear(sides, heard, 3 * i, true, line, last.place);
-        i += 1;
+    for i in 0..6 {
+        last = option_line::hear(last.sides, heard, 3 * i, true, line, last.place);
     }
     last
 }
@@ -96,28 +88,14 @@ fn hear_all(first: Sent, heard: &[u8], line: &mut [u8]) -> Sent
 fn is_on(side: Side) -> bool
     ensures { result ≡ is_on side }
 {
-    match side {
-        Side::On => true,
-        Side::Off => false,
-        Side::WantOff => false,
-        Side::WantOffThenOn => false,
-        Side::WantOn => false,
-        Side::WantOnThenOff => false,
-    }
+    matches!(side, Side::On)
 }
 
 // Whether all that the host asks for is on, as it sees it.
 fn all_on(sides: Sides) -> bool
     ensures { result ≡ all_on 6 0 sides }
 {
-    let mut i = 0;
-    while i < 6 {
-        if !is_on(sides.side(whose_at(i), option_at(i))) {
-            return false;
-        }
-        i += 1;
-    }
-    true
+    (0..6).all(|i| is_on(sides.side(whose_at(i), option_at(i))))
 }
 
 // Both ends, from their first command on.
@@ -129,11 +107,10 @@ fn exchange() -> Commands
     let asked = ask_all(&mut down);
     hear_all(nothing_sent(), &down, &mut up);
     let host = hear_all(asked, &up, &mut down);
-    let sides = host.sides;
     Commands {
         down,
         up,
-        rests: all_on(sides),
+        rests: all_on(host.sides),
     }
 }
 

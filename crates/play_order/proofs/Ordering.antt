@@ -1,17 +1,15 @@
 -- The order sent, by what the sending of each part answers and leaves; and what a completion sends. Assumes nothing.
-use mathlib.Core.Path.{◌≡◌, refl, ap, ap₂, sym, ◌∙◌}
+use Rattle.std.specs.Prelude.{is_err}
+use mathlib.Core.Path.{◌≡◌, refl, ap, ap₂, ◌∙◌}
 use mathlib.Core.Bool.{Bool, true, false}
 use mathlib.Core.List.{List, []}
 use Prim.Native.Nat.{ℕ}
-use native.Mathlib.Omega.{arith}
 use lib.ListN.{replicate}
-use Rattle.refusal.specs.Refusal.{none_held}
 use Rattle.octets.specs.Lent.{Outcome, outcome, overwrite}
 use Rattle.octets.specs.Promise.{write_front}
 use Rattle.telnet.specs.declared.Verb.TheVariants.{Do}
 use Rattle.telnet.specs.Event.{negotiation}
 use Rattle.print_ledger.specs.declared.Ledger.{Ledger}
-use Rattle.print_ledger.specs.declared.Completion.TheVariants.{Written, Refused}
 use Rattle.print_ledger.specs.declared.Completed.{Completed}
 use Rattle.print_ledger.specs.Ledger.{complete_into}
 use Rattle.show_event.specs.Sent.{sent_at, sent_all, record_events}
@@ -30,24 +28,20 @@ marked h = record { held = h }
 
 -- a completion that wrote the record had one held, and one that was refused had none: ten bytes are room enough
 module _ {r : Completed} {bytes : List ℕ} where
-  held-written : (t : Bool) → outcome r bytes ≡ complete_into (marked t) (replicate 10 0) → r.completion ≡ Written
+  held-written : (t : Bool) → outcome r bytes ≡ complete_into (marked t) (replicate 10 0) → is_err r.completion ≡ false
       → record_events bytes ≡ completed (marked t)
   unfolding complete_into write_front overwrite
-  held-written false e h =
-      let differ : Written ≡ Refused none_held = sym h ∙ ap (λ (o : Outcome Completed). o.answer.completion) e in
-      absurd (let z : ◌≡◌ {A = ℕ} 0 1 = cc differ in omega arith)
+  held-written false e h = let k = ap (λ (o : Outcome Completed). is_err o.answer.completion) e in cc
   held-written true e h = ap (λ (o : Outcome Completed). record_events o.lent) e
 
-  none_written : (t : Bool) → outcome r bytes ≡ complete_into (marked t) (replicate 10 0) → {n : ℕ} → r.completion ≡ Refused n
+  none_written : (t : Bool) → outcome r bytes ≡ complete_into (marked t) (replicate 10 0) → is_err r.completion ≡ true
       → [] ≡ completed (marked t)
   unfolding complete_into write_front
   none_written false e h = refl
-  none_written true e h =
-      let differ : Written ≡ Refused _ = sym (ap (λ (o : Outcome Completed). o.answer.completion) e) ∙ h in
-      absurd (let z : ◌≡◌ {A = ℕ} 0 1 = cc differ in omega arith)
+  none_written true e h = let k = ap (λ (o : Outcome Completed). is_err o.answer.completion) e in cc
 
-  pub held-completed : (l : Ledger) → outcome r bytes ≡ complete_into l (replicate 10 0) → r.completion ≡ Written → record_events bytes ≡ completed l
+  pub held-completed : (l : Ledger) → outcome r bytes ≡ complete_into l (replicate 10 0) → is_err r.completion ≡ false → record_events bytes ≡ completed l
   held-completed l = held-written l.held
 
-  pub none-completed : (l : Ledger) → outcome r bytes ≡ complete_into l (replicate 10 0) → {n : ℕ} → r.completion ≡ Refused n → [] ≡ completed l
+  pub none-completed : (l : Ledger) → outcome r bytes ≡ complete_into l (replicate 10 0) → is_err r.completion ≡ true → [] ≡ completed l
   none-completed l = none_written l.held

@@ -1,13 +1,11 @@
 -- An order on the line, what the printer's ledger has of it, and what goes back (RFC 4777, section 11).
-use Rattle.std.specs.Prelude.{◌≡◌, ℕ, true, List, [], ◌∷◌, ◌++◌, replicate, if◌then◌else◌}
+use Rattle.std.specs.Prelude.{◌≡◌, ℕ, true, List, [], ◌∷◌, ◌++◌, replicate, if◌then◌else◌, None, Some, Ok, Err}
 use Rattle.octets.specs.Ascii.{ascii}
 use Rattle.octets.specs.Lent.{Outcome, outcome}
 use Rattle.octets.specs.Part.{part}
 use Rattle.telnet.specs.declared.Verb.TheVariants.{Do}
 use Rattle.telnet.specs.Event.{Event, run, negotiation}
-use Rattle.telnet_records.specs.declared.Record.{Record}
-use Rattle.telnet_records.specs.declared.Record.TheVariants.{Complete, Unfinished, Refused}
-use Rattle.telnet_records.specs.Promise.{record_at}
+use Rattle.telnet_records.specs.Promise.{Answer, record_at}
 use Rattle.option_sides.specs.Session.{all_off}
 use Rattle.option_line.specs.declared.Sent.{Sent}
 use Rattle.option_line.specs.Line.{heard_on}
@@ -35,13 +33,13 @@ order = first_run ∷ negotiation Do timing_mark ∷ record_events second_run
 unfoldable pub ordered : List ℕ → ℕ → Outcome ℕ
 ordered down at = outcome (sent_at first_run down at).answer (sent_all order down at).lent
 
-abbrev pub length_of : Record → ℕ
-length_of (Complete n next) = n
-length_of Unfinished = 0
-length_of (Refused number) = 0
+abbrev pub length_of : Answer → ℕ
+length_of (Ok (Some r)) = r.length
+length_of (Ok None) = 0
+length_of (Err e) = 0
 
 -- the bytes of a record that was read into a buffer
-abbrev pub bytes_read : Outcome Record → List ℕ
+abbrev pub bytes_read : Outcome Answer → List ℕ
 bytes_read o = part o.lent 0 (length_of o.answer)
 
 -- a fresh ledger that was given the record at a place

@@ -9,8 +9,9 @@ ghost use Rattle.show_event.specs.Sent.{sent_all};
 ghost use Rattle.play_order.specs.Order.{ordered, ledger_by, replied, completed, length_of, Played};
 
 use option_sides::Sides;
-use print_frame::{Direction, Frame, FrameAnswer};
-use print_ledger::{Completion, Ledger, Receipt};
+use print_frame::{Direction, Frame};
+use print_ledger::{Ledger, Receipt};
+use refusal::Refusal;
 use show_event::Sender;
 use telnet::{Kind, Verb};
 use telnet_records::Record;
@@ -43,39 +44,40 @@ fn print(down: &mut [u8], at: usize) -> usize
     between
 }
 
-fn say_receipt(receipt: Receipt) {
+fn say_receipt(receipt: Result<Receipt, Refusal>) {
     match receipt {
-        Receipt::Held => say(b": held"),
-        Receipt::Cleared => say(b": cleared"),
-        Receipt::NothingToClear => say(b": nothing to clear"),
-        Receipt::Refused(_) => say(b": refused"),
+        Ok(Receipt::Held) => say(b": held"),
+        Ok(Receipt::Cleared) => say(b": cleared"),
+        Ok(Receipt::NothingToClear) => say(b": nothing to clear"),
+        Err(_) => say(b": refused"),
     }
 }
 
-fn length_of(answer: Record) -> usize
+// How long a record is, where one was read.
+fn length_of(answer: Result<Option<Record>, Refusal>) -> usize
     ensures { result ≡ length_of answer }
 {
     match answer {
-        Record::Complete { length, next: _ } => length,
-        Record::Unfinished => 0,
-        Record::Refused(_) => 0,
+        Ok(Some(record)) => record.length,
+        _ => 0,
     }
 }
 
 // The printer takes the record at a place into a fresh ledger.
+#[tactic(auto, unfolding(crate::specs::Order::ledger_by))]
 fn take(down: &[u8], at: usize) -> Ledger
     ensures { result ≡ ledger_by down.now at }
 {
     let mut frame = [0u8; 512];
     let n = length_of(telnet_records::read_record(down, at, &mut frame));
     let taken = Ledger::fresh().take_frame(octets_part::part(&frame, 0, n));
-    let receipt = taken.receipt;
-    say_receipt(receipt);
+    say_receipt(taken.receipt);
     taken.ledger
 }
 
 // The printer answers the option command at a place. An option that is not carried has no side: fresh sides answer it
 // as any others would. The answer is the place after what it sends.
+#[tactic(auto, unfolding(crate::specs::Order::replied))]
 fn reply(down: &[u8], from: usize, up: &mut [u8], at: usize) -> usize
     ensures { outcome result up.new ≡ replied down.now from up.old at }
 {
@@ -84,18 +86,17 @@ fn reply(down: &[u8], from: usize, up: &mut [u8], at: usize) -> usize
     answered.place
 }
 
-fn say_direction(frame: Frame) {
-    let direction = frame.direction;
+fn say_direction(direction: Direction) {
     match direction {
         Direction::Outbound => say(b": a print record"),
         Direction::Inbound => say(b": print complete"),
     }
 }
 
-fn say_frame(answer: FrameAnswer) {
+fn say_frame(answer: Result<Frame, Refusal>) {
     match answer {
-        FrameAnswer::Read(frame) => say_direction(frame),
-        FrameAnswer::Refused(_) => say(b": refused"),
+        Ok(frame) => say_direction(frame.direction),
+        Err(_) => say(b": refused"),
     }
 }
 
@@ -111,16 +112,12 @@ fn complete(ledger: Ledger, up: &mut [u8], at: usize) -> usize
     ensures { outcome result up.new ≡ sent_all (completed ledger) up.old at }
 {
     let mut bytes = [0u8; 10];
-    let after = ledger.complete(&mut bytes);
-    let completion = after.completion;
-    match completion {
-        Completion::Written => {
-            let end = show_event::send_record(Sender::Printer, &bytes, up, at);
-            hear(octets_part::part(up, 0, end), at);
-            return end;
-        }
-        Completion::Refused(_) => return at,
+    if ledger.complete(&mut bytes).completion.is_err() {
+        return at;
     }
+    let end = show_event::send_record(Sender::Printer, &bytes, up, at);
+    hear(octets_part::part(up, 0, end), at);
+    end
 }
 
 // The order is sent, taken, and heard back, on both lines from a place of each on. The answer is the place after what

@@ -8,7 +8,9 @@ ghost use Rattle.signon.specs.Verdict.{answer_of};
 ghost use Rattle.play.specs.Seed.{server_seed};
 ghost use Rattle.play_signon.specs.Judged.{verdict_by, length_of, judged};
 
-use signon::{Answer, Verdict};
+use refusal::Refusal;
+use signon::Verdict;
+use telnet_reader::Found;
 
 fn say(words: &[u8]) {
     io::write_all(1, words);
@@ -25,46 +27,37 @@ fn say_verdict(verdict: Verdict) {
 }
 
 // A payload that is refused fails.
-fn verdict_by(answer: Answer) -> Verdict
+fn verdict_by(answer: Result<Verdict, Refusal>) -> Verdict
     ensures { result ≡ verdict_by answer }
 {
-    match answer {
-        Answer::Given(verdict) => verdict,
-        Answer::Refused(_) => Verdict::Failed,
-    }
+    answer.unwrap_or(Verdict::Failed)
 }
 
 // How many bytes were read.
-fn length_of(answer: telnet_reader::Answer) -> usize
+fn length_of(answer: Result<Option<Found>, Refusal>) -> usize
     ensures { result ≡ length_of answer }
 {
     match answer {
-        telnet_reader::Answer::Found {
-            kind: _,
-            length,
-            next: _,
-        } => length,
-        telnet_reader::Answer::End => 0,
-        telnet_reader::Answer::Refused(_) => 0,
+        Ok(Some(found)) => found.length,
+        _ => 0,
     }
 }
 
 // The host's verdict on a payload, under the seed that the host gave.
-fn answer_to(table: &[u8], payload: &[u8]) -> Answer
+fn answer_to(table: &[u8], payload: &[u8]) -> Result<Verdict, Refusal>
     ensures { result ≡ answer_of server_seed table.now payload.now }
 {
-    signon_verdict::verdict(b"\x00\x4C\x01\x19\x02\xFF\x03\xB2", table, payload)
+    signon_verdict::verdict(&play::SEED, table, payload)
 }
 
 // The host's verdict on the payload at a place of the printer's line.
+#[tactic(auto, unfolding(crate::specs::Judged::judged))]
 pub fn judge(table: &[u8], up: &[u8], at: usize) -> Verdict
     ensures { result ≡ judged table.now up.now at }
 {
     let mut payload = [0u8; telnet::PAYLOAD_LIMIT];
-    let answer = telnet_reader::read(up, at, &mut payload);
-    let n = length_of(answer);
-    let given = answer_to(table, octets_part::part(&payload, 0, n));
-    let verdict = verdict_by(given);
+    let n = length_of(telnet_reader::read(up, at, &mut payload));
+    let verdict = verdict_by(answer_to(table, octets_part::part(&payload, 0, n)));
     say_verdict(verdict);
     verdict
 }

@@ -1,6 +1,6 @@
 -- Each refusal of a frame is given exactly where its sentence holds and none before it does: each test of `frame_of`
 -- says its sentence, and the walk through the tests finds the first that holds. Assumes nothing.
-use Rattle.std.specs.Prelude.{if◌then◌else◌}
+use Rattle.std.specs.Prelude.{if◌then◌else◌, Result, Ok, Err}
 use mathlib.Core.Path.{◌≡◌, refl, sym, ap, subst, ◌∙◌}
 use mathlib.Core.Bool.{Bool, true, false, not, ◌||◌}
 use mathlib.Core.List.{List, [], ◌∷◌}
@@ -16,13 +16,13 @@ use Rattle.octets.specs.Bytes.{Bytes}
 use Rattle.octets.proofs.Choice.{choice}
 use Rattle.octets.proofs.Order.{below-or-above}
 use Rattle.print_frame.specs.declared.Frame.{Frame}
-use Rattle.print_frame.specs.declared.FrameAnswer.{FrameAnswer}
-use Rattle.print_frame.specs.declared.FrameAnswer.TheVariants.{Read, Refused}
+use Rattle.refusal.specs.declared.Refusal.{Refusal}
+use Rattle.refusal.specs.Refusal.{number}
 use Rattle.print_frame.specs.Frame as Definition
 use Rattle.print_frame.specs.Frame.{number_at, structure_length, identifier, data_place}
 use Rattle.print_frame.specs.Frame.{goes, is_flow, is_reserved, is_operation, header_of, frame_of}
 use Rattle.print_frame.specs.Theorems.{Fault, frame_length, record_type, data_flow, header_length, reserved_flag}
-use Rattle.print_frame.specs.Theorems.{operation, number_of, at, Sentence, NoneBefore, NoFault, Judged}
+use Rattle.print_frame.specs.Theorems.{operation, number_of, refusal_for, at, Sentence, NoneBefore, NoFault, Judged}
 use Rattle.print_frame.specs.Theorems.{FrameIsItsSentence}
 use Rattle.print_frame.proofs.Masks.{low-three}
 
@@ -102,16 +102,27 @@ numbered operation = record { back = refl; low = lit≤ tt; high = lit< tt }
 same-fault : (j k : Fault) → number_of j ≡ number_of k → j ≡ k
 same-fault j k e = sym (numbered j).back ∙ ap fault_of e ∙ (numbered k).back
 
+refusal-numbered : (k : Fault) → number (refusal_for k) ≡ number_of k
+refusal-numbered frame_length = refl
+refusal-numbered record_type = refl
+refusal-numbered data_flow = refl
+refusal-numbered header_length = refl
+refusal-numbered reserved_flag = refl
+refusal-numbered operation = refl
+
+one-fault : (j k : Fault) → refusal_for j ≡ refusal_for k → j ≡ k
+one-fault j k e = same-fault j k (sym (refusal-numbered j) ∙ ap number e ∙ refusal-numbered k)
+
 -- the first sentence that holds
 abbrev IsFirst : List ℕ → Fault → Type 0
 IsFirst f k = Sentence f k × NoneBefore f k
 
 -- what an answer says: no sentence holds, or the first that does
-data Says (f : List ℕ) : FrameAnswer → Type 0 where
-  none : (x : Frame) → NoFault f → Says f (Read x)
-  first : (k : Fault) → IsFirst f k → Says f (Refused (number_of k))
+data Says (f : List ℕ) : Result Frame Refusal → Type 0 where
+  none : (x : Frame) → NoFault f → Says f (Ok x)
+  first : (k : Fault) → IsFirst f k → Says f (Err (refusal_for k))
 
-read-refused : {A : Type 0} {x : Frame} {n : ℕ} → Read x ≡ Refused n → A
+read-refused : {A : Type 0} {x : Frame} {e : Refusal} → ◌≡◌ {A = Result Frame Refusal} (Ok x) (Err e) → A
 read-refused e = let z : ◌≡◌ {A = ℕ} 0 1 = cc in absurd (omega arith)
 
 module _ (f : List ℕ) where
@@ -126,9 +137,9 @@ module _ (f : List ℕ) where
       (below-or-above (number_of j) (number_of k))
 
   -- one test of the walk
-  step : (k : Fault) {t : Bool} {rest : FrameAnswer} → Tests t (Sentence f k)
+  step : (k : Fault) {t : Bool} {rest : Result Frame Refusal} → Tests t (Sentence f k)
       → (NoneBelow (number_of k + 1) → Says f rest) → NoneBelow (number_of k)
-      → Says f (if t then Refused (number_of k) else rest)
+      → Says f (if t then Err (refusal_for k) else rest)
   step k {t} test further before =
       choice (Says f) t
       (λ e. first k (test.says (passes t e), before))
@@ -141,16 +152,18 @@ module _ (f : List ℕ) where
   one-first : (j k : Fault) → IsFirst f j → IsFirst f k → number_of j ≡ number_of k
   one-first j k p q = omega (arith, none_before j k p q, none_before k j q p)
 
-  judged : {a : FrameAnswer} → frame_of f ≡ a → Says f a → Judged f
+  judged : {a : Result Frame Refusal} → frame_of f ≡ a → Says f a → Judged f
   judged e (none x n) = record {
     refused = λ k. (λ r. read-refused (sym e ∙ r), λ p. absurd (n k p.0));
+    numbered = refusal-numbered;
     is_read = (λ r. n, λ m. record { frame = x; read = e });
   }
   judged e (first j p) = record {
     refused = λ k. (
-      λ r. let same : number_of j ≡ number_of k = cc in subst (IsFirst f) (same-fault j k same) p,
-      λ q. e ∙ ap Refused (one-first j k p q),
+      λ r. let same : refusal_for j ≡ refusal_for k = cc in subst (IsFirst f) (one-fault j k same) p,
+      λ q. e ∙ ap (λ i. Err (refusal_for i)) (same-fault j k (one-first j k p q)),
     );
+    numbered = refusal-numbered;
     is_read = (λ r. read-refused (sym r.read ∙ e), λ n. absurd (n j p.0));
   }
 

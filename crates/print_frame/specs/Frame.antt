@@ -1,6 +1,6 @@
 -- Printer pass-through frames (RFC 4777, section 11, figure 3; specification, "Printer frames"). A frame is a list of
 -- bytes. Bytes and bits are numbered as there, from 0, and bit 0 of a byte is its high bit.
-use Rattle.std.specs.Prelude.{ℕ, ◌+◌, ◌-◌, ◌*◌, ◌/◌, ◌%◌, ◌^◌, Bool, true, false, not, ◌||◌, List, eqb, ltb, length, get_or, if◌then◌else◌}
+use Rattle.std.specs.Prelude.{ℕ, ◌+◌, ◌-◌, ◌*◌, ◌/◌, ◌%◌, ◌^◌, Bool, true, false, not, ◌||◌, List, eqb, ltb, length, get_or, if◌then◌else◌, Result, Ok, Err}
 use Rattle.print_frame.specs.declared.Direction.{Direction}
 use Rattle.print_frame.specs.declared.Direction.TheVariants.{Outbound, Inbound}
 use Rattle.print_frame.specs.declared.Operation.{Operation}
@@ -8,10 +8,8 @@ use Rattle.print_frame.specs.declared.Operation.TheVariants.{Print, Clear}
 use Rattle.print_frame.specs.declared.Flags.{Flags}
 use Rattle.print_frame.specs.declared.Part.{Part}
 use Rattle.print_frame.specs.declared.Frame.{Frame}
-use Rattle.print_frame.specs.declared.FrameAnswer.{FrameAnswer}
-use Rattle.print_frame.specs.declared.FrameAnswer.TheVariants.{Read, Refused}
-use Rattle.refusal.specs.Refusal.{bad_frame_length, bad_record_type, bad_data_flow, bad_header_length, reserved_flag, bad_operation}
-use Rattle.refusal.specs.RefusedBy.{Refusal, no_refusal, refused_by}
+use Rattle.refusal.specs.declared.Refusal.{Refusal}
+use Rattle.refusal.specs.declared.Refusal.TheVariants.{BadFrameLength, BadRecordType, BadDataFlow, BadHeaderLength, ReservedFlag, BadOperation}
 
 -- the byte at a place
 abbrev pub byte : List ℕ → ℕ → ℕ
@@ -57,6 +55,10 @@ is_flow w = goes w Outbound || goes w Inbound
 unfoldable pub direction_of : ℕ → Direction
 direction_of w = if goes w Outbound then Outbound else Inbound
 
+-- that direction, or 42
+abbrev pub direction_from : ℕ → Result Direction Refusal
+direction_from w = if is_flow w then Ok (direction_of w) else Err BadDataFlow
+
 -- BYTES 4-5, bit 3: diagnostic information included
 abbrev pub diagnostics_included : List ℕ → Bool
 diagnostics_included f = is_set 3 (byte f 4)
@@ -92,6 +94,10 @@ is_operation b = eqb b (operation_code Print) || eqb b (operation_code Clear)
 unfoldable pub operation_of : ℕ → Operation
 operation_of b = if eqb b (operation_code Print) then Print else Clear
 
+-- that operation, or 45
+abbrev pub operation_from : ℕ → Result Operation Refusal
+operation_from b = if is_operation b then Ok (operation_of b) else Err BadOperation
+
 -- where the data starts: LL counts from its own byte, which is byte 6 ("the print data will start in byte LL+1",
 -- counted from there as 1)
 abbrev pub data_place : List ℕ → ℕ
@@ -117,22 +123,17 @@ said f = record {
 }
 
 -- the pass-through specific header, from LL on, with the refusals from 43 to 45
-unfoldable pub header_of : List ℕ → FrameAnswer
+unfoldable pub header_of : List ℕ → Result Frame Refusal
 header_of f =
-    if ltb (header_length f) 4 || ltb (structure_length f) (data_place f) then Refused bad_header_length else
-    if is_reserved (byte f 7) (byte f 8) then Refused reserved_flag else
-    if not (is_operation (byte f 9)) then Refused bad_operation else
-    Read (said f)
+    if ltb (header_length f) 4 || ltb (structure_length f) (data_place f) then Err BadHeaderLength else
+    if is_reserved (byte f 7) (byte f 8) then Err ReservedFlag else
+    if not (is_operation (byte f 9)) then Err BadOperation else
+    Ok (said f)
 
 -- a frame, with the refusals from 40 to 45; one over 65,535 bytes is 40, as no LLLL says its length
-unfoldable pub frame_of : List ℕ → FrameAnswer
+unfoldable pub frame_of : List ℕ → Result Frame Refusal
 frame_of f =
-    if ltb (length f) 10 || not (eqb (structure_length f) (length f)) then Refused bad_frame_length else
-    if not (eqb (identifier f) 0x12A0) then Refused bad_record_type else
-    if not (is_flow (data_flow f)) then Refused bad_data_flow else
+    if ltb (length f) 10 || not (eqb (structure_length f) (length f)) then Err BadFrameLength else
+    if not (eqb (identifier f) 0x12A0) then Err BadRecordType else
+    if not (is_flow (data_flow f)) then Err BadDataFlow else
     header_of f
-
--- the number that a frame is refused by
-abbrev pub frame_refusal : FrameAnswer → Refusal
-frame_refusal (Read f) = no_refusal
-frame_refusal (Refused n) = refused_by n

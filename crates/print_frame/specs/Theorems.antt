@@ -1,9 +1,11 @@
 -- What is proved of frames: each refusal is given exactly where its sentence in the specification's table holds and
 -- none before it does. The proofs are in `proofs/Limits.antt` and `proofs/Sentences.antt`.
-use Rattle.std.specs.Prelude.{◌≡◌, List, ◌↔◌, ◌⊎◌, ℕ, ◌+◌, ◌*◌, ◌%◌, ◌<◌, length, get_or}
+use Rattle.std.specs.Prelude.{◌≡◌, List, ◌↔◌, ◌⊎◌, ℕ, ◌+◌, ◌*◌, ◌%◌, ◌<◌, length, get_or, Ok, Err}
 use Rattle.octets.specs.Bytes.{Bytes}
 use Rattle.print_frame.specs.declared.Frame.{Frame}
-use Rattle.print_frame.specs.declared.FrameAnswer.TheVariants.{Read, Refused}
+use Rattle.refusal.specs.declared.Refusal.{Refusal}
+use Rattle.refusal.specs.declared.Refusal.TheVariants.{BadFrameLength, BadRecordType, BadDataFlow, BadHeaderLength, ReservedFlag, BadOperation}
+use Rattle.refusal.specs.Refusal.{number}
 use Rattle.print_frame.specs.Frame.{frame_of}
 
 -- the byte at a place, from 0 on, and LLLL, the number in the first two
@@ -24,6 +26,15 @@ number_of data_flow = 42
 number_of header_length = 43
 number_of reserved_flag = 44
 number_of operation = 45
+
+-- the refusal that says so
+abbrev pub refusal_for : Fault → Refusal
+refusal_for frame_length = BadFrameLength
+refusal_for record_type = BadRecordType
+refusal_for data_flow = BadDataFlow
+refusal_for header_length = BadHeaderLength
+refusal_for reserved_flag = ReservedFlag
+refusal_for operation = BadOperation
 
 -- the sentence of each number in "Refusal numbers"; the reserved flags are those of "Printer frames", "07X of the first
 -- flag byte, all of the second"
@@ -52,10 +63,11 @@ NoFault f = (k : Fault) → Sentence f k → ⊥
 -- what is read of some bytes
 pub record IsRead (f : List ℕ) : Type 0 where
   pub frame : Frame
-  pub read : frame_of f ≡ Read frame
+  pub read : frame_of f ≡ Ok frame
 
 pub record Judged (f : List ℕ) : Type 0 where
-  pub refused : (k : Fault) → (frame_of f ≡ Refused (number_of k)) ↔ (Sentence f k × NoneBefore f k)
+  pub refused : (k : Fault) → (frame_of f ≡ Err (refusal_for k)) ↔ (Sentence f k × NoneBefore f k)
+  pub numbered : (k : Fault) → number (refusal_for k) ≡ number_of k
   pub is_read : IsRead f ↔ NoFault f
 
 -- A frame is refused by a number exactly where its sentence holds and none before it does, and read exactly where none
@@ -65,4 +77,4 @@ FrameIsItsSentence = (f : List ℕ) → Bytes f → Judged f
 
 -- So one that is too long to say its length is refused by 40: its first two bytes are at most 255.
 abbrev pub TooLongToSay : Type 0
-TooLongToSay = (f : List ℕ) → at f 0 < 256 → at f 1 < 256 → 65535 < length f → frame_of f ≡ Refused 40
+TooLongToSay = (f : List ℕ) → at f 0 < 256 → at f 1 < 256 → 65535 < length f → frame_of f ≡ Err BadFrameLength

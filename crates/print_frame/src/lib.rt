@@ -2,21 +2,23 @@
 #![tactic(auto)]
 
 ghost use Rattle.std.specs.Prelude.{◌≡◌, ◌+◌, ◌≤◌, ◌<◌, length};
-ghost use Rattle.print_frame.specs.Frame.{number_at, is_flow, direction_of, flags_of, is_reserved, is_operation, operation_of};
-ghost use Rattle.print_frame.specs.Frame.{structure_length, header_length, data_place, said, header_of, frame_of};
+ghost use Rattle.print_frame.specs.Frame.{number_at, data_flow, direction_of, direction_from, flags_of, is_reserved, operation_from};
+ghost use Rattle.print_frame.specs.Frame.{structure_length, header_of, frame_of};
 
-// Who sends a frame: the server (outbound) or the client (inbound).
+use refusal::Refusal;
+
+// Who sends a frame: the server (outbound) or the client (inbound). The numbers are the low byte of the data flow.
 #[derive(Clone, Copy)]
 pub enum Direction {
-    Outbound,
-    Inbound,
+    Outbound = 0x01,
+    Inbound = 0x02,
 }
 
-// What a frame asks of the printer. From the client, a print is the print complete.
+// What a frame asks of the printer, by its code. From the client, a print is the print complete.
 #[derive(Clone, Copy)]
 pub enum Operation {
-    Print,
-    Clear,
+    Print = 0x01,
+    Clear = 0x02,
 }
 
 // The flags of a frame that are not reserved.
@@ -47,13 +49,6 @@ pub struct Frame {
     pub print_data: Part,
 }
 
-// A frame, or a refusal.
-#[derive(Clone, Copy)]
-pub enum FrameAnswer {
-    Read(Frame),
-    Refused(u8),
-}
-
 // The masks of the first flag byte, and of the first byte of the data flow.
 const ERROR: u8 = 0x80;
 
@@ -70,34 +65,42 @@ const RESERVED: u8 = 0x07;
 const DIAGNOSTICS_INCLUDED: u8 = 0x10;
 
 // The number in two bytes at a place, the high byte first.
-fn number_at(frame: &[u8], at: usize) -> usize
+fn number_at(frame: &[u8], at: usize) -> u16
     requires { at + 1 < length frame.now }
     ensures { result ≡ number_at frame.now at }
 {
-    (frame[at] as usize) * 256 + (frame[at + 1] as usize)
+    u16::from_be_bytes([frame[at], frame[at + 1]])
 }
 
-// Whether a data flow is that of a printer record.
-fn is_flow(flow: usize) -> bool
-    ensures { result ≡ is_flow flow }
-{
-    match flow {
-        0x0101 => true,
-        0x0102 => true,
-        0x1101 => true,
-        0x1102 => true,
-        _ => false,
+impl TryFrom<u16> for Direction {
+    type Error = Refusal;
+
+    ghost try_from_gives = { λ flow r. r ≡ direction_from flow };
+
+    // The direction of a printer record's data flow.
+    #[tactic(auto, unfolding(crate::specs::Frame::goes, crate::specs::Frame::is_flow, crate::specs::Frame::direction_of))]
+    fn try_from(flow: u16) -> Result<Direction, Refusal> {
+        match flow {
+            0x0101 | 0x1101 => Ok(Direction::Outbound),
+            0x0102 | 0x1102 => Ok(Direction::Inbound),
+            _ => Err(Refusal::BadDataFlow),
+        }
     }
 }
 
-// The direction of a data flow.
-fn direction_of(flow: usize) -> Direction
-    ensures { result ≡ direction_of flow }
-{
-    match flow {
-        0x0101 => Direction::Outbound,
-        0x1101 => Direction::Outbound,
-        _ => Direction::Inbound,
+impl TryFrom<u8> for Operation {
+    type Error = Refusal;
+
+    ghost try_from_gives = { λ code r. r ≡ operation_from code };
+
+    // The operation of a code.
+    #[tactic(auto, unfolding(crate::specs::Frame::is_operation, crate::specs::Frame::operation_of))]
+    fn try_from(code: u8) -> Result<Operation, Refusal> {
+        match code {
+            0x01 => Ok(Operation::Print),
+            0x02 => Ok(Operation::Clear),
+            _ => Err(Refusal::BadOperation),
+        }
     }
 }
 
@@ -118,45 +121,31 @@ fn flags_of(flags: u8) -> Flags
 fn is_reserved(first: u8, second: u8) -> bool
     ensures { result ≡ is_reserved first second }
 {
-    if first & RESERVED == 0 {
-        return second != 0;
-    }
-    true
+    first & RESERVED != 0 || second != 0
 }
 
-// Whether a byte is an operation code.
-fn is_operation(code: u8) -> bool
-    ensures { result ≡ is_operation code }
+// The pass-through specific header of a frame whose length is right, or the first of 43 to 45 that applies.
+#[tactic(auto, unfolding(crate::specs::Frame::header_of))]
+fn read_header(frame: &[u8], direction: Direction) -> Result<Frame, Refusal>
+    requires long { 10 ≤ length frame.now }
+    requires said { structure_length frame.now ≡ length frame.now }
+    requires direction { direction ≡ direction_of (data_flow frame.now) }
+    ensures { result ≡ header_of frame.now }
 {
-    match code {
-        0x01 => true,
-        0x02 => true,
-        _ => false,
-    }
-}
-
-// The operation of a code.
-fn operation_of(code: u8) -> Operation
-    ensures { result ≡ operation_of code }
-{
-    match code {
-        0x01 => Operation::Print,
-        _ => Operation::Clear,
-    }
-}
-
-// What a frame says whose lengths are right.
-fn fields(frame: &[u8]) -> Frame
-    requires { (4 ≤ header_length frame.now) × (data_place frame.now ≤ length frame.now) }
-    ensures { result ≡ said frame.now }
-{
-    let header = frame[6] as usize;
+    let header = usize::from(frame[6]);
     let data = 6 + header;
-    Frame {
-        direction: direction_of(number_at(frame, 4)),
+    if header < 4 || frame.len() < data {
+        return Err(Refusal::BadHeaderLength);
+    }
+    if is_reserved(frame[7], frame[8]) {
+        return Err(Refusal::ReservedFlag);
+    }
+    let operation = Operation::try_from(frame[9])?;
+    Ok(Frame {
+        direction,
         diagnostics_included: frame[4] & DIAGNOSTICS_INCLUDED != 0,
         flags: flags_of(frame[7]),
-        operation: operation_of(frame[9]),
+        operation,
         diagnostics: Part {
             place: 10,
             length: header - 4,
@@ -165,46 +154,21 @@ fn fields(frame: &[u8]) -> Frame
             place: data,
             length: frame.len() - data,
         },
-    }
-}
-
-// The pass-through specific header of a frame whose length is right, or the first of 43 to 45 that applies.
-fn read_header(frame: &[u8]) -> FrameAnswer
-    requires { (10 ≤ length frame.now) × (structure_length frame.now ≡ length frame.now) }
-    ensures { result ≡ header_of frame.now }
-{
-    let header = frame[6] as usize;
-    if header < 4 {
-        return FrameAnswer::Refused(refusal::BAD_HEADER_LENGTH);
-    }
-    if frame.len() < 6 + header {
-        return FrameAnswer::Refused(refusal::BAD_HEADER_LENGTH);
-    }
-    if is_reserved(frame[7], frame[8]) {
-        return FrameAnswer::Refused(refusal::RESERVED_FLAG);
-    }
-    if !is_operation(frame[9]) {
-        return FrameAnswer::Refused(refusal::BAD_OPERATION);
-    }
-    FrameAnswer::Read(fields(frame))
+    })
 }
 
 // The frame, or the first of 40 to 45 that applies. Nothing is copied: diagnostic bytes and data are given by their
 // places.
-pub fn read_frame(frame: &[u8]) -> FrameAnswer
+#[tactic(auto, unfolding(crate::specs::Frame::frame_of))]
+pub fn read_frame(frame: &[u8]) -> Result<Frame, Refusal>
     ensures { result ≡ frame_of frame.now }
 {
-    if frame.len() < 10 {
-        return FrameAnswer::Refused(refusal::BAD_FRAME_LENGTH);
-    }
-    if number_at(frame, 0) != frame.len() {
-        return FrameAnswer::Refused(refusal::BAD_FRAME_LENGTH);
+    if frame.len() < 10 || usize::from(number_at(frame, 0)) != frame.len() {
+        return Err(Refusal::BadFrameLength);
     }
     if number_at(frame, 2) != 0x12A0 {
-        return FrameAnswer::Refused(refusal::BAD_RECORD_TYPE);
+        return Err(Refusal::BadRecordType);
     }
-    if !is_flow(number_at(frame, 4)) {
-        return FrameAnswer::Refused(refusal::BAD_DATA_FLOW);
-    }
-    read_header(frame)
+    let direction = Direction::try_from(number_at(frame, 4))?;
+    read_header(frame, direction)
 }

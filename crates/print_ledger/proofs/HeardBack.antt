@@ -1,6 +1,6 @@
 -- Every list of calls from fresh is heard back as `Theorems.HeardBack` says, by induction on the list: each call keeps
 -- the balance of what was accepted with what was completed, cleared and is held. Assumes nothing.
-use Rattle.std.specs.Prelude.{if◌then◌else◌}
+use Rattle.std.specs.Prelude.{if◌then◌else◌, Result, Ok, Err}
 use mathlib.Core.Path.{◌≡◌, refl}
 use mathlib.Core.Bool.{Bool, true, false, not, ◌&&◌}
 use mathlib.Core.Logic.{◌↔◌}
@@ -11,31 +11,30 @@ use lib.Dec.{T, eqb}
 use lib.ListN.{length}
 use Rattle.octets.specs.Lent.{Outcome, overwrite}
 use Rattle.octets.proofs.Promise.{front-either}
-use Rattle.refusal.specs.RefusedBy.{is_refused}
+use Rattle.refusal.specs.declared.Refusal.{Refusal}
+use Rattle.refusal.specs.RefusedBy.{is_refused, refusal_number}
 use Rattle.print_frame.specs.declared.Direction.{Direction}
 use Rattle.print_frame.specs.declared.Direction.TheVariants.{Outbound, Inbound}
 use Rattle.print_frame.specs.declared.Operation.{Operation}
 use Rattle.print_frame.specs.declared.Operation.TheVariants.{Print, Clear}
 use Rattle.print_frame.specs.declared.Frame.{Frame}
-use Rattle.print_frame.specs.declared.FrameAnswer.{FrameAnswer}
-use Rattle.print_frame.specs.declared.FrameAnswer.TheVariants.{Read, Refused}
 use Rattle.print_ledger.specs.declared.Ledger.{Ledger}
 use Rattle.print_ledger.specs.declared.Completed.{Completed}
 use Rattle.print_frame.specs.Frame.{frame_of}
-use Rattle.print_ledger.specs.Ledger.{fresh, answered, take_frame, print_complete, complete_into, receipt_refusal, completion_refusal}
+use Rattle.print_ledger.specs.Ledger.{fresh, answered, take_frame, print_complete, complete_into}
 use Rattle.print_ledger.specs.History.{Call, frame, completion, after, held_records, is_outbound, asks, is_print_frame, is_clear_frame, prints}
 use Rattle.print_ledger.specs.History.{refused_call, accepts, clears, completes, one, count_calls, run}
 use Rattle.print_ledger.specs.Theorems.{PrintsAreHeardBack}
 
-abbrev is_taken : Ledger → FrameAnswer → Bool
-is_taken l a = not (is_refused (receipt_refusal (answered l a).receipt))
+abbrev is_taken : Ledger → Result Frame Refusal → Bool
+is_taken l a = not (is_refused (refusal_number (answered l a).receipt))
 
 -- what a frame makes of a ledger
-record Stepped (l : Ledger) (a : FrameAnswer) : Type 0 where
+record Stepped (l : Ledger) (a : Result Frame Refusal) : Type 0 where
   balanced : held_records l + one (asks Print a && is_taken l a) ≡ one (asks Clear a && eqb (held_records l) 1) + held_records (answered l a).ledger
   print-held : T (asks Print a) → held_records l ≡ 0 → T (asks Print a && is_taken l a) × (held_records (answered l a).ledger ≡ 1)
   clear-empties : T (asks Clear a) → T (is_taken l a) × (held_records (answered l a).ledger ≡ 0)
-  kept : T (is_refused (receipt_refusal (answered l a).receipt)) → (answered l a).ledger ≡ l
+  kept : T (is_refused (refusal_number (answered l a).receipt)) → (answered l a).ledger ≡ l
 
 -- a ledger by whether a record is held
 abbrev marked : Bool → Ledger
@@ -52,7 +51,7 @@ turned f d o = record {
   print_data = f.print_data;
 }
 
-read-stepped : (h : Bool) (f : Frame) (d : Direction) (o : Operation) → Stepped (marked h) (Read (turned f d o))
+read-stepped : (h : Bool) (f : Frame) (d : Direction) (o : Operation) → Stepped (marked h) (Ok (turned f d o))
 unfolding held_records is_outbound asks
 read-stepped h f Inbound o =
     record { balanced = omega arith; print-held = λ p. absurd p; clear-empties = λ c. absurd c; kept = λ r. refl }
@@ -65,21 +64,21 @@ read-stepped false f Outbound Clear =
 read-stepped true f Outbound Clear =
     record { balanced = refl; print-held = λ p. absurd p; clear-empties = λ c. (tt, refl); kept = λ r. absurd r }
 
-stepped : (l : Ledger) (a : FrameAnswer) → Stepped l a
+stepped : (l : Ledger) (a : Result Frame Refusal) → Stepped l a
 unfolding asks
-stepped l (Read f) = read-stepped l.held f f.direction f.operation
-stepped l (Refused n) =
+stepped l (Ok f) = read-stepped l.held f f.direction f.operation
+stepped l (Err e) =
     record { balanced = omega arith; print-held = λ p. absurd p; clear-empties = λ c. absurd c; kept = λ r. refl }
 
 abbrev is_written : Outcome Completed → Bool
-is_written o = not (is_refused (completion_refusal o.answer.completion))
+is_written o = not (is_refused (refusal_number o.answer.completion))
 
 -- what a completion makes of a ledger and an output
 record Ended (l : Ledger) (out : List ℕ) (o : Outcome Completed) : Type 0 where
   exactly : T (is_written o) ↔ ((held_records l ≡ 1) × (length print_complete ≤ length out))
   bytes : o.lent ≡ (if is_written o then overwrite out 0 print_complete else out)
   idle : T (is_written o) → held_records o.answer.ledger ≡ 0
-  kept : T (is_refused (completion_refusal o.answer.completion)) → o.answer.ledger ≡ l
+  kept : T (is_refused (refusal_number o.answer.completion)) → o.answer.ledger ≡ l
   balanced : held_records l ≡ one (is_written o) + held_records o.answer.ledger
 
 mark-ended : (h : Bool) (out : List ℕ) → Ended (marked h) out (complete_into (marked h) out)

@@ -1,17 +1,17 @@
 -- The history of a ledger: any calls of it, one after the other, each on what the one before handed back. What is
 -- counted is counted from the list of calls (specification, "Printer frames"): what a call asks is read from its bytes,
 -- and whether it is refused from its answer. `Theorems.antt` says what holds of every history.
-use Rattle.std.specs.Prelude.{ℕ, ◌+◌, Bool, true, false, not, ◌&&◌, List, [], ◌∷◌, eqb, if◌then◌else◌}
+use Rattle.std.specs.Prelude.{ℕ, ◌+◌, Bool, true, false, not, ◌&&◌, List, [], ◌∷◌, eqb, if◌then◌else◌, Result, Ok, Err}
 use Rattle.print_frame.specs.declared.Direction.{Direction}
 use Rattle.print_frame.specs.declared.Direction.TheVariants.{Outbound, Inbound}
 use Rattle.print_frame.specs.declared.Operation.{Operation}
 use Rattle.print_frame.specs.declared.Operation.TheVariants.{Print, Clear}
-use Rattle.print_frame.specs.declared.FrameAnswer.{FrameAnswer}
-use Rattle.print_frame.specs.declared.FrameAnswer.TheVariants.{Read, Refused as NotRead}
+use Rattle.print_frame.specs.declared.Frame.{Frame}
 use Rattle.print_frame.specs.Frame.{operation_code, frame_of}
 use Rattle.print_ledger.specs.declared.Ledger.{Ledger}
-use Rattle.print_ledger.specs.Ledger.{fresh, take_frame, complete_into, receipt_refusal, completion_refusal}
-use Rattle.refusal.specs.RefusedBy.{is_refused}
+use Rattle.print_ledger.specs.Ledger.{fresh, take_frame, complete_into}
+use Rattle.refusal.specs.declared.Refusal.{Refusal}
+use Rattle.refusal.specs.RefusedBy.{is_refused, refusal_number}
 
 -- a frame given to the ledger, or a completion with the output that is lent to it
 pub data Call : Type 0 where
@@ -37,9 +37,9 @@ is_outbound Outbound = true
 is_outbound Inbound = false
 
 -- whether what was read is a good outbound frame with an operation
-unfoldable pub asks : Operation → FrameAnswer → Bool
-asks o (Read f) = is_outbound f.direction && eqb (operation_code f.operation) (operation_code o)
-asks o (NotRead n) = false
+unfoldable pub asks : Operation → Result Frame Refusal → Bool
+asks o (Ok f) = is_outbound f.direction && eqb (operation_code f.operation) (operation_code o)
+asks o (Err e) = false
 
 -- bytes that are a good outbound print
 unfoldable pub is_print_frame : List ℕ → Bool
@@ -56,8 +56,8 @@ prints (completion out) = false
 
 -- a call is refused where its answer is a number
 unfoldable pub refused_call : Ledger → Call → Bool
-refused_call l (frame f) = is_refused (receipt_refusal (take_frame l f).receipt)
-refused_call l (completion out) = is_refused (completion_refusal (complete_into l out).answer.completion)
+refused_call l (frame f) = is_refused (refusal_number (take_frame l f).receipt)
+refused_call l (completion out) = is_refused (refusal_number (complete_into l out).answer.completion)
 
 -- a call is an accepted print where it is a print and is not refused
 unfoldable pub accepts : Ledger → Call → Bool

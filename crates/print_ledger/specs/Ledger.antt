@@ -1,21 +1,17 @@
 -- The print ledger (specification, "Printer frames"). "Ledger" is the specification's own term, and so is "record" for
 -- what it holds: the print record of RFC 4777, section 11.1. The ledger keeps that one is held, not its bytes.
-use Rattle.std.specs.Prelude.{ℕ, true, false, not, List, [], ◌∷◌, if◌then◌else◌}
+use Rattle.std.specs.Prelude.{ℕ, true, false, not, List, [], ◌∷◌, if◌then◌else◌, Result, Ok, Err}
 use Rattle.print_frame.specs.declared.Direction.TheVariants.{Outbound, Inbound}
 use Rattle.print_frame.specs.declared.Operation.TheVariants.{Print, Clear}
 use Rattle.print_frame.specs.declared.Frame.{Frame}
-use Rattle.print_frame.specs.declared.FrameAnswer.{FrameAnswer}
-use Rattle.print_frame.specs.declared.FrameAnswer.TheVariants.{Read, Refused as NotRead}
 use Rattle.print_ledger.specs.declared.Ledger.{Ledger}
 use Rattle.print_ledger.specs.declared.Receipt.{Receipt}
-use Rattle.print_ledger.specs.declared.Receipt.TheVariants.{Held, Cleared, NothingToClear, Refused as NotTaken}
+use Rattle.print_ledger.specs.declared.Receipt.TheVariants.{Held, Cleared, NothingToClear}
 use Rattle.print_ledger.specs.declared.Taken.{Taken}
-use Rattle.print_ledger.specs.declared.Completion.{Completion}
-use Rattle.print_ledger.specs.declared.Completion.TheVariants.{Written, Refused as NotWritten}
 use Rattle.print_ledger.specs.declared.Completed.{Completed}
 use Rattle.print_frame.specs.Frame.{frame_of}
-use Rattle.refusal.specs.Refusal.{no_room, record_held, none_held, inbound_frame}
-use Rattle.refusal.specs.RefusedBy.{Refusal, no_refusal, refused_by}
+use Rattle.refusal.specs.declared.Refusal.{Refusal}
+use Rattle.refusal.specs.declared.Refusal.TheVariants.{NoRoom, RecordHeld, NoneHeld, InboundFrame}
 use Rattle.octets.specs.Lent.{Outcome, outcome}
 use Rattle.octets.specs.Promise.{write_front}
 
@@ -31,28 +27,28 @@ abbrev pub fresh : Ledger
 fresh = idle
 
 -- a successor, and what became of the frame
-abbrev pub after_frame : Ledger → Receipt → Taken
+abbrev pub after_frame : Ledger → Result Receipt Refusal → Taken
 after_frame l r = record { ledger = l; receipt = r }
 
 -- a print is refused by 50 when one is held, and is held when none is
 abbrev pub printed : Ledger → Frame → Taken
-printed l f = if l.held then after_frame l (NotTaken record_held) else after_frame holding Held
+printed l f = if l.held then after_frame l (Err RecordHeld) else after_frame holding (Ok Held)
 
 -- a clear empties the ledger, idle or not, without a completion
 abbrev pub cleared : Ledger → Frame → Taken
-cleared l f = if l.held then after_frame idle Cleared else after_frame idle NothingToClear
+cleared l f = if l.held then after_frame idle (Ok Cleared) else after_frame idle (Ok NothingToClear)
 
 -- a frame that was read, by its direction and its operation: 52 for an inbound one, before 50
 abbrev pub taken : Ledger → Frame → Taken
 taken l f = elim f.direction [
-  | Inbound ↦ after_frame l (NotTaken inbound_frame)
+  | Inbound ↦ after_frame l (Err InboundFrame)
   | Outbound ↦ elim f.operation [ Print ↦ printed l f | Clear ↦ cleared l f ]
 ]
 
 -- a frame as it was read
-abbrev pub answered : Ledger → FrameAnswer → Taken
-answered l (NotRead n) = after_frame l (NotTaken n)
-answered l (Read f) = taken l f
+abbrev pub answered : Ledger → Result Frame Refusal → Taken
+answered l (Err e) = after_frame l (Err e)
+answered l (Ok f) = taken l f
 
 -- the ledger given a frame: 40 to 45 before 52
 unfoldable pub take_frame : Ledger → List ℕ → Taken
@@ -63,22 +59,11 @@ abbrev pub print_complete : List ℕ
 print_complete = 0x00 ∷ 0x0A ∷ 0x12 ∷ 0xA0 ∷ 0x01 ∷ 0x02 ∷ 0x04 ∷ 0x00 ∷ 0x00 ∷ 0x01 ∷ []
 
 -- a successor, and whether the record was written
-abbrev pub after_completion : Ledger → Completion → Completed
+abbrev pub after_completion : Ledger → Result Unit Refusal → Completed
 after_completion l c = record { ledger = l; completion = c }
 
 -- the device's completion, into a lent output: 51, then 4; one that is refused for want of room still holds
 unfoldable pub complete_into : Ledger → List ℕ → Outcome Completed
 complete_into l out =
-    if not l.held then outcome (after_completion l (NotWritten none_held)) out else
-    write_front (λ _. after_completion idle Written) (after_completion l (NotWritten no_room)) print_complete out
-
--- the number that a receipt, or a completion, refuses by
-abbrev pub receipt_refusal : Receipt → Refusal
-receipt_refusal Held = no_refusal
-receipt_refusal Cleared = no_refusal
-receipt_refusal NothingToClear = no_refusal
-receipt_refusal (NotTaken n) = refused_by n
-
-abbrev pub completion_refusal : Completion → Refusal
-completion_refusal Written = no_refusal
-completion_refusal (NotWritten n) = refused_by n
+    if not l.held then outcome (after_completion l (Err NoneHeld)) out else
+    write_front (λ _. after_completion idle (Ok tt)) (after_completion l (Err NoRoom)) print_complete out

@@ -1,9 +1,8 @@
 -- What holds of every history of a ledger from fresh, and of the print complete record: on the line, and as a frame.
 -- The proofs are in `proofs/HeardBack.antt` and `proofs/OnTheLine.antt`.
-use Rattle.std.specs.Prelude.{◌≡◌, false, not, ◌↔◌, List, [], ◌∷◌, ◌++◌, ℕ, ◌+◌, ◌≤◌, ◌<◌, T, length, if◌then◌else◌}
+use Rattle.std.specs.Prelude.{◌≡◌, false, not, ◌↔◌, List, [], ◌∷◌, ◌++◌, ℕ, ◌+◌, ◌≤◌, ◌<◌, T, length, if◌then◌else◌, Ok}
 use Rattle.print_frame.specs.declared.Direction.TheVariants.{Inbound}
 use Rattle.print_frame.specs.declared.Operation.TheVariants.{Print}
-use Rattle.print_frame.specs.declared.FrameAnswer.TheVariants.{Read}
 use Rattle.print_frame.specs.Frame.{flags_of, frame_of}
 use Rattle.print_ledger.specs.Ledger.{fresh, print_complete, complete_into}
 use Rattle.print_ledger.specs.History.{Call, frame, completion, after, held_records, is_print_frame, is_clear_frame, prints, refused_call}
@@ -57,7 +56,7 @@ PrintCompleteReadsBack = (bs : List ℕ) → record_of (written_all (data_run pr
 -- Print complete is a good frame from the client (RFC 4777, figures 3 and 5): '01'X "Print/Print complete", with no
 -- flag set and neither diagnostic bytes nor data.
 abbrev pub PrintCompleteIsAFrame : Type 0
-PrintCompleteIsAFrame = frame_of print_complete ≡ Read (record {
+PrintCompleteIsAFrame = frame_of print_complete ≡ Ok (record {
   direction = Inbound;
   diagnostics_included = false;
   flags = flags_of 0x00;

@@ -92,7 +92,7 @@ backs s (a ∷ b ∷ f ∷ n ∷ r) g t =
 -- a reading of bytes that means what is there
 abbrev Means : Shape → ℕ → List ℕ → List ℕ → TableReading → Type 0
 Means s room before bs (profiles ps) = (records_bytes ps ≡ bs) × (Ascending s before ps × (length ps ≤ room))
-Means s room before bs (table_refused n) = Unit {0}
+Means s room before bs (table_refused r) = Unit {0}
 
 bytes-from : (k : ℕ) (bs : List ℕ) → Bytes bs → Bytes (drop k bs)
 bytes-from k bs g i = rw get_or-drop (g (k + i))
@@ -105,7 +105,7 @@ add-means s room before bs (profiles ps) g t o m =
       rw m.0 b.whole,
       ((b.good, (o, m.1.0)), omega (arith, m.1.1)),
     )
-add-means s room before bs (table_refused n) g t o m = tt
+add-means s room before bs (table_refused r) g t o m = tt
 
 records-mean : (s : Shape) (room : ℕ) (before bs : List ℕ) → Bytes bs → Means s room before bs (profiles_from s room before bs)
 unfolding profiles_from records_bytes unless_end
@@ -127,11 +127,11 @@ records-mean s (suc room) before (b ∷ bs) g =
 -- a reading of a table that means what is there
 abbrev pub TableMeans : List ℕ → TableReading → Type 0
 TableMeans bs (profiles ps) = IsTable bs ps
-TableMeans bs (table_refused n) = Unit {0}
+TableMeans bs (table_refused r) = Unit {0}
 
 with-version : (v : ℕ) → T (is_version v) → (bs : List ℕ) (r : TableReading) → Means (shape_of v) profile_count [] bs r → TableMeans (v ∷ bs) r
 with-version v known bs (profiles ps) m = record { known = known; bytes = ap (λ l. v ∷ l) m.0; ascending = m.1.0; few = m.1.1 }
-with-version v known bs (table_refused n) m = tt
+with-version v known bs (table_refused r) m = tt
 
 pub table-means : (bs : List ℕ) → Bytes bs → TableMeans bs (table_of bs)
 unfolding table_of

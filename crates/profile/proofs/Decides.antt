@@ -9,6 +9,8 @@ use lib.Dec.{T}
 use lib.ListN.{length}
 use denote.Floats.{is_true}
 use Rattle.octets.specs.Bytes.{Bytes}
+use Rattle.refusal.specs.declared.Refusal.{Refusal}
+use Rattle.refusal.specs.declared.Refusal.TheVariants.{BadProfile, ProfilesNotAscending}
 use Rattle.names.specs.Name.{profile_limit}
 use Rattle.names.specs.Order.{precedes}
 use Rattle.profile.specs.Profile.{Shape, shape_of, Profile, body_length, record_bytes}
@@ -45,16 +47,16 @@ last_name_lem (p ∷ ps) = last-from p ps
 
 module _ (s : Shape) (short : body_length s profile_limit < 2 ^ 16) where
   -- What is refused after good records is refused with them.
-  passed : (room left : ℕ) (before : List ℕ) (ps : List Profile) (rest : List ℕ) (n : ℕ)
+  passed : (room left : ℕ) (before : List ℕ) (ps : List Profile) (rest : List ℕ) (e : Refusal)
       → Ascending s before ps → length ps + left ≡ room
-      → profiles_from s left (last_from before ps) rest ≡ table_refused n
-      → profiles_from s room before (records_bytes ps ++ rest) ≡ table_refused n
+      → profiles_from s left (last_from before ps) rest ≡ table_refused e
+      → profiles_from s room before (records_bytes ps ++ rest) ≡ table_refused e
   unfolding records_bytes add_profile last_from
-  passed room left before [] rest n asc room-is e = let same : left ≡ room = omega arith in rw (← same) e
-  passed zero left before (p ∷ ps) rest n asc room-is e = absurd (omega arith)
-  passed (suc room) left before (p ∷ ps) rest n (w, (b, asc)) room-is e =
+  passed room left before [] rest e asc room-is h = let same : left ≡ room = omega arith in rw (← same) h
+  passed zero left before (p ∷ ps) rest e asc room-is h = absurd (omega arith)
+  passed (suc room) left before (p ∷ ps) rest e (w, (b, asc)) room-is h =
       rw append_assoc (next-record s short room before p (records_bytes ps ++ rest) w b
-      ∙ ap (add_profile p) (passed room left p.name ps rest n asc (omega arith) e))
+      ∙ ap (add_profile p) (passed room left p.name ps rest e asc (omega arith) h))
 
   -- bytes at whose front there is no record of a well-formed profile are not a record
   no_record : (bs : List ℕ) → Bytes bs → Malformed s bs → is_record s bs ≡ false
@@ -64,7 +66,7 @@ module _ (s : Shape) (short : body_length s profile_limit < 2 ^ 16) where
   -- a record whose name does not come after the name before it, or for which there is no room
   misplaced : (room : ℕ) (before : List ℕ) (p : Profile) (more : List ℕ) → WellFormed s p
       → (T (precedes before p.name) → ⊥) ⊎ (room ≡ 0)
-      → profiles_from s room before (record_bytes p ++ more) ≡ table_refused 32
+      → profiles_from s room before (record_bytes p ++ more) ≡ table_refused ProfilesNotAscending
   misplaced room before p more w why =
       let bs = record_bytes p ++ more in
       let f = fronts s p more w short in
@@ -78,7 +80,7 @@ module _ (s : Shape) (short : body_length s profile_limit < 2 ^ 16) where
 
   -- more records than there is room for
   one-too-many : (room : ℕ) (before : List ℕ) (ps : List Profile) → Ascending s before ps → room < length ps
-      → profiles_from s room before (records_bytes ps) ≡ table_refused 32
+      → profiles_from s room before (records_bytes ps) ≡ table_refused ProfilesNotAscending
   unfolding records_bytes add_profile
   one-too-many room before [] asc many = absurd (omega arith)
   one-too-many zero before (p ∷ ps) (w, (b, asc)) many = misplaced zero before p (records_bytes ps) w (inr refl)
@@ -95,11 +97,11 @@ first-record-decides v known ps asc few rest g =
     record {
       malformed = λ some bad.
           let here = malformed s (last_from [] ps) rest (some-there rest some) left (no_record s (short v) rest g bad) in
-          reads ∙ after 31 asc (omega arith) here;
+          reads ∙ after BadProfile asc (omega arith) here;
       misplaced = λ p more w e why.
           let why-here : (T (precedes (last_from [] ps) p.name) → ⊥) ⊎ (left ≡ 0) =
           ⊎_elim (λ never. inl (rw last_name_lem never)) (λ all. inr (omega arith)) why in
-          reads ∙ after 32 asc (omega arith) (rw e (misplaced s (short v) left (last_from [] ps) p more w why-here));
+          reads ∙ after ProfilesNotAscending asc (omega arith) (rw e (misplaced s (short v) left (last_from [] ps) p more w why-here));
     }
 
 pub at-most-500 : AtMost500

@@ -4,7 +4,8 @@ use Rattle.std.specs.Prelude.{ℕ, zero, suc, ◌+◌, ◌^◌, Bool, not, ◌&&
 use Rattle.names.specs.Name.{is_raised_name, profile_limit}
 use Rattle.names.specs.Order.{precedes}
 use Rattle.words.specs.BigEndian.{number}
-use Rattle.refusal.specs.Refusal.{bad_table, bad_profile, profiles_not_ascending}
+use Rattle.refusal.specs.declared.Refusal.{Refusal}
+use Rattle.refusal.specs.declared.Refusal.TheVariants.{BadTable, BadProfile, ProfilesNotAscending}
 use Rattle.profile.specs.Profile.{Shape, shape_of, Profile, marks_of, tokens_of, body_length, record_length, record_bytes}
 
 -- the version that a table is made with, and whether a version is known
@@ -44,15 +45,15 @@ is_record s bs =
     && (eqb (number (take 2 bs)) (body_length s (name_length_at bs))
     && (ltb (flags_at bs) (2 ^ s.marks) && is_raised_name profile_limit (name_at bs)))
 
--- what a table says: its profiles in their order, or the number of the first refusal
+-- what a table says: its profiles in their order, or the first refusal
 pub data TableReading : Type 0 where
   profiles : List Profile → TableReading
-  table_refused : ℕ → TableReading
+  table_refused : Refusal → TableReading
 
 -- a profile with what comes after it
 unfoldable pub add_profile : Profile → TableReading → TableReading
 add_profile p (profiles ps) = profiles (p ∷ ps)
-add_profile p (table_refused n) = table_refused n
+add_profile p (table_refused e) = table_refused e
 
 -- what is read of bytes that are not at their end
 unfoldable pub unless_end : List ℕ → TableReading → TableReading
@@ -63,16 +64,16 @@ unless_end (b ∷ bs) reading = reading
 -- that is not well-formed, then 32 for one too many and for one whose name does not come after the name before it.
 -- Bytes that are left over are a record that is cut.
 unfoldable pub profiles_from : Shape → (room : ℕ) (before bs : List ℕ) → TableReading
-profiles_from s zero before bs = unless_end bs (if not (is_record s bs) then table_refused bad_profile else table_refused profiles_not_ascending)
+profiles_from s zero before bs = unless_end bs (if not (is_record s bs) then table_refused BadProfile else table_refused ProfilesNotAscending)
 profiles_from s (suc room) before bs = unless_end bs
-    (if not (is_record s bs) then table_refused bad_profile else
-    if not (precedes before (name_at bs)) then table_refused profiles_not_ascending else
+    (if not (is_record s bs) then table_refused BadProfile else
+    if not (precedes before (name_at bs)) then table_refused ProfilesNotAscending else
     add_profile (profile_at s bs) (profiles_from s room (name_at bs) (drop (record_length s (name_length_at bs)) bs)))
 
 -- A table. Decides 30; no name comes before the first, and the empty text comes before every name.
 unfoldable pub table_of : List ℕ → TableReading
-table_of [] = table_refused bad_table
-table_of (v ∷ bs) = if not (is_version v) then table_refused bad_table else profiles_from (shape_of v) profile_count [] bs
+table_of [] = table_refused BadTable
+table_of (v ∷ bs) = if not (is_version v) then table_refused BadTable else profiles_from (shape_of v) profile_count [] bs
 
 -- the version byte of a table, and the shape of its records
 abbrev pub version_of : List ℕ → ℕ

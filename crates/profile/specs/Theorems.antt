@@ -4,6 +4,7 @@
 use Rattle.std.specs.Prelude.{◌≡◌, true, false, List, [], ◌∷◌, ◌++◌, map, ◌↔◌, ◌⊎◌, ℕ, ◌+◌, ◌^◌, ◌≤◌, ◌<◌, T, length}
 use Rattle.octets.specs.Ascii.{ascii}
 use Rattle.octets.specs.Bytes.{Bytes}
+use Rattle.refusal.specs.declared.Refusal.TheVariants.{BadProfile, ProfilesNotAscending}
 use Rattle.words.specs.BigEndian.{bytes}
 use Rattle.names.specs.Name.{is_raised_name, profile_limit}
 use Rattle.names.specs.Order.{precedes}
@@ -58,9 +59,9 @@ Malformed s bs = (p : Profile) (more : List ℕ) → WellFormed s p → bs ≡ r
 
 -- what the bytes after good records decide by the record at their front, whatever comes after it: 31, and then 32
 pub record FrontDecides (version : ℕ) (ps : List Profile) (rest : List ℕ) : Type 0 where
-  pub malformed : (rest ≡ [] → ⊥) → Malformed (shape_of version) rest → table_of (table_bytes version ps ++ rest) ≡ table_refused 31
+  pub malformed : (rest ≡ [] → ⊥) → Malformed (shape_of version) rest → table_of (table_bytes version ps ++ rest) ≡ table_refused BadProfile
   pub misplaced : (p : Profile) (more : List ℕ) → WellFormed (shape_of version) p → rest ≡ record_bytes p ++ more
-      → (T (precedes (last_name ps) p.name) → ⊥) ⊎ (length ps ≡ 500) → table_of (table_bytes version ps ++ rest) ≡ table_refused 32
+      → (T (precedes (last_name ps) p.name) → ⊥) ⊎ (length ps ≡ 500) → table_of (table_bytes version ps ++ rest) ≡ table_refused ProfilesNotAscending
 
 -- "In tables, record by record, 31 before 32": the first record that is malformed, out of order or the 501st decides.
 abbrev pub FirstRecordDecides : Type 0
@@ -73,7 +74,7 @@ abbrev pub AtMost500 : Type 0
 AtMost500 =
     (version : ℕ) → T (is_version version) → (ps : List Profile) → Ascending (shape_of version) [] ps
     → (length ps ≤ 500 → table_of (table_bytes version ps) ≡ profiles ps)
-    × (500 < length ps → table_of (table_bytes version ps) ≡ table_refused 32)
+    × (500 < length ps → table_of (table_bytes version ps) ≡ table_refused ProfilesNotAscending)
 
 -- A record of 33 bytes: its length without the first two, flags 01X, a name of one letter, and the two tokens.
 abbrev pub example_record : List ℕ

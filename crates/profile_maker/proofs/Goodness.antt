@@ -1,5 +1,6 @@
 -- Made records are good, and tables of them are accepted: the theorems `Theorems.MadeRecordsAreGood` and
 -- `Theorems.MadeTablesRead`. Assumes nothing.
+use Rattle.std.specs.Prelude.{Result, Ok}
 use mathlib.Core.Path.{◌≡◌}
 use mathlib.Core.Bool.{not}
 use mathlib.Core.List.{List, [], ◌∷◌, map}
@@ -10,8 +11,7 @@ use denote.Floats.{is_true}
 use lib.ListN.{take, length-map}
 use Rattle.octets.specs.Lent.{Outcome}
 use Rattle.octets.proofs.Choice.{choice}
-use Rattle.refusal.specs.declared.Written.{Written}
-use Rattle.refusal.specs.declared.Written.TheVariants.{Wrote}
+use Rattle.refusal.specs.declared.Refusal.{Refusal}
 use Rattle.refusal.proofs.Writing.{not-wrote, wrote-front}
 use Rattle.names.specs.Name.{raised, is_name, profile_limit}
 use Rattle.password_sha.specs.Sha.{is_password}
@@ -25,8 +25,8 @@ use Rattle.profile_maker.specs.Theorems.{Good, AscendingMakings, MadeRecordsAreG
 use Rattle.profile_maker.proofs.Formed.{formed, size}
 
 -- what is left after an answer that n bytes were written
-abbrev GoodIfWrote : Making → ℕ → Outcome Written → Type 0
-GoodIfWrote m n o = o.answer ≡ Wrote n → Good m n (take n o.lent)
+abbrev GoodIfWrote : Making → ℕ → Outcome (Result ℕ Refusal) → Type 0
+GoodIfWrote m n o = o.answer ≡ Ok n → Good m n (take n o.lent)
 
 pub made-records-are-good : MadeRecordsAreGood
 unfolding make_into shape_of sum_of

@@ -1,4 +1,5 @@
 -- The parts of a record: what it says of DES, and its pieces put one after the other. Assumes nothing.
+use Rattle.std.specs.Prelude.{Result, Ok, Err}
 use mathlib.Core.Path.{◌≡◌, refl, sym, ◌∙◌}
 use mathlib.Core.Bool.{Bool, true, false, not, and-true, and-false}
 use mathlib.Core.List.{List, [], ◌∷◌, ◌++◌, append_assoc}
@@ -12,17 +13,16 @@ use Rattle.octets.proofs.Choice.{choice}
 use Rattle.octets.proofs.Overwrite.{overwrite-nil}
 use Rattle.octets.proofs.Pieces.{put-after}
 use Rattle.words.specs.BigEndian.{bytes}
+use Rattle.refusal.specs.declared.Refusal.{Refusal}
 use Rattle.names.specs.Name.{is_name, profile_limit}
-use Rattle.password_des.specs.declared.Block.{Block}
-use Rattle.password_des.specs.declared.Block.TheVariants.{Value, Refused}
 use Rattle.password_des.specs.Answer.{des_token}
 use Rattle.profile_maker.specs.Made.{has_des_token, des_token_bytes}
 use Rattle.profile_maker.specs.Internal.Parts.{SaysDes, laid_out}
 
 -- what an answer of `des_token` means for a record
-abbrev pub Means : List ℕ → List ℕ → Bool → Block → Type 0
-Means name password asked (Value token) = SaysDes name password asked asked (bytes 8 token)
-Means name password asked (Refused number) = SaysDes name password asked false (replicate 8 0)
+abbrev pub Means : List ℕ → List ℕ → Bool → Result ℕ Refusal → Type 0
+Means name password asked (Ok token) = SaysDes name password asked asked (bytes 8 token)
+Means name password asked (Err e) = SaysDes name password asked false (replicate 8 0)
 
 pub means : (name password : List ℕ) (asked : Bool) → is_name profile_limit name ≡ true → Means name password asked (des_token name password)
 unfolding des_token des_token_bytes

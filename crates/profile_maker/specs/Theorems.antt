@@ -1,7 +1,6 @@
 -- What is proved of made records: they are records of well-formed profiles, and a table of them in ascending order is
 -- accepted. The proofs are in `proofs/Goodness.antt`.
-use Rattle.std.specs.Prelude.{◌≡◌, List, [], ◌∷◌, map, ℕ, ◌+◌, ◌≤◌, T, length, take}
-use Rattle.refusal.specs.declared.Written.TheVariants.{Wrote}
+use Rattle.std.specs.Prelude.{◌≡◌, List, [], ◌∷◌, map, ℕ, ◌+◌, ◌≤◌, T, length, take, Ok}
 use Rattle.names.specs.Name.{raised, is_name, profile_limit}
 use Rattle.names.specs.Order.{precedes}
 use Rattle.password_sha.specs.Sha.{is_password}
@@ -21,7 +20,7 @@ pub record Good (m : Making) (n : ℕ) (written : List ℕ) : Type 0 where
 -- profile.
 abbrev pub MadeRecordsAreGood : Type 0
 MadeRecordsAreGood =
-    (m : Making) (out : List ℕ) (n : ℕ) → (make_into m out).answer ≡ Wrote n → Good m n (take n (make_into m out).lent)
+    (m : Making) (out : List ℕ) (n : ℕ) → (make_into m out).answer ≡ Ok n → Good m n (take n (make_into m out).lent)
 
 -- good names and passwords, the names strictly ascending after one
 abbrev pub AscendingMakings : List ℕ → List Making → Type 0

@@ -10,8 +10,7 @@ ghost use Rattle.profile_maker.specs.Made.{making};
 ghost use Rattle.profile_maker.specs.Promise.{make_into};
 ghost use Rattle.profile_maker.specs.Internal.Parts.{SaysDes, laid_out};
 
-use password_des::Block;
-use refusal::Written;
+use refusal::Refusal;
 
 // What a record says of DES: its mark and its token.
 #[derive(Clone, Copy)]
@@ -21,19 +20,11 @@ struct DesPart {
 }
 
 // The flags of two marks.
+#[tactic(auto, unfolding(profile::specs::Profile::flags_byte))]
 fn flags(enabled: bool, des_allowed: bool) -> u8
     ensures { result ≡ flags_byte (enabled ∷ des_allowed ∷ []) }
 {
-    if enabled {
-        if des_allowed {
-            return 3;
-        }
-        return 1;
-    }
-    if des_allowed {
-        return 2;
-    }
-    0
+    enabled as u8 + 2 * (des_allowed as u8)
 }
 
 // The token by DES with the mark as asked; zeros and no mark, where the password has no token.
@@ -41,13 +32,12 @@ fn des_part(name: &[u8], password: &[u8], des_allowed: bool) -> DesPart
     requires { is_name profile_limit name.now ≡ true }
     ensures { SaysDes name.now password.now des_allowed result.allowed result.token }
 {
-    let answer = password_des::des_token(name, password);
-    match answer {
-        Block::Value(token) => DesPart {
+    match password_des::des_token(name, password) {
+        Ok(token) => DesPart {
             allowed: des_allowed,
             token: words::bytes_64(token),
         },
-        Block::Refused(_) => DesPart {
+        Err(_) => DesPart {
             allowed: false,
             token: [0u8; 8],
         },
@@ -78,22 +68,16 @@ pub fn make_record(
     enabled: bool,
     des_allowed: bool,
     out: &mut [u8],
-) -> Written
+) -> Result<usize, Refusal>
     ensures { outcome result out.new ≡
         make_into (making name.now password.now enabled des_allowed) out.old }
 {
-    let sha = password_sha::sha_token(name, password);
-    let refusal = sha.refusal;
-    if refusal != 0 {
-        return Written::Refused(refusal);
-    }
+    let sha = password_sha::sha_token(name, password)?;
     let length = 32 + name.len();
     if out.len() < length {
-        return Written::Refused(refusal::NO_ROOM);
+        return Err(Refusal::NoRoom);
     }
     let des = des_part(name, password, des_allowed);
-    let des_token = des.token;
-    let sha_token = sha.bytes;
-    put_record(name, flags(enabled, des.allowed), des_token, sha_token, out);
-    Written::Wrote(length)
+    put_record(name, flags(enabled, des.allowed), des.token, sha, out);
+    Ok(length)
 }

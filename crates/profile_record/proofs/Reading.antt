@@ -1,4 +1,5 @@
 -- What a step says of the reading of the records from there on. Assumes nothing.
+use Rattle.std.specs.Prelude.{Result, Ok, Err}
 use mathlib.Core.Path.{◌≡◌, refl}
 use mathlib.Core.Bool.{Bool, true, false, not}
 use mathlib.Core.List.{List}
@@ -8,12 +9,12 @@ use borrow.Author.Tests.{not-true, not-false, leb-true, leb-false}
 use lib.Dec.{leb}
 use lib.ListN.{length, drop}
 use Rattle.octets.proofs.Choice.{choice}
+use Rattle.refusal.specs.declared.Refusal.{Refusal}
+use Rattle.refusal.specs.declared.Refusal.TheVariants.{ProfilesNotAscending}
 use Rattle.names.specs.Order.{precedes}
 use Rattle.profile.specs.Profile.{Shape, record_length}
 use Rattle.profile.specs.Table.{profile_count, name_length_at, name_at, profile_at, is_record, TableReading, table_refused, add_profile, profiles_from}
 use Rattle.profile.proofs.Steps.{malformed, too_many, not-ascending, one_more}
-use Rattle.profile_record.specs.declared.Step.{Step}
-use Rattle.profile_record.specs.declared.Step.TheVariants.{Next, Stop}
 use Rattle.profile_record.specs.Step.{step_of}
 
 -- what the records of bytes say, after `count` profiles and the name of the last of them
@@ -29,12 +30,12 @@ pub record IsNext (s : Shape) (count : ℕ) (before bs : List ℕ) (n : ℕ) : T
       ≡ add_profile (profile_at s bs) (records_after s (count + 1) (name_at bs) (drop (record_length s n) bs))
 
 -- a step: a record, or the refusal of all
-abbrev pub Stepped : Shape → (count : ℕ) (before bs : List ℕ) → Step → Type 0
-Stepped s count before bs (Next n) = IsNext s count before bs n
-Stepped s count before bs (Stop n) = records_after s count before bs ≡ table_refused n
+abbrev pub Stepped : Shape → (count : ℕ) (before bs : List ℕ) → Result ℕ Refusal → Type 0
+Stepped s count before bs (Ok n) = IsNext s count before bs n
+Stepped s count before bs (Err e) = records_after s count before bs ≡ table_refused e
 
 module _ (s : Shape) (count : ℕ) (before bs : List ℕ) (some : 0 < length bs) where
-  one-too-many : profile_count ≤ count → is_record s bs ≡ true → Stepped s count before bs (Stop 32)
+  one-too-many : profile_count ≤ count → is_record s bs ≡ true → Stepped s count before bs (Err ProfilesNotAscending)
   one-too-many h good = let none : profile_count - count ≡ 0 = omega arith in rw none (too_many s before bs some good)
 
   next : count < profile_count → is_record s bs ≡ true → precedes before (name_at bs) ≡ true → IsNext s count before bs (name_length_at bs)

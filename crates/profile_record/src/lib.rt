@@ -2,19 +2,13 @@
 // a table takes. What a record is, is said in the crate `profile`; what a step answers, in `specs/Step.antt`.
 #![tactic(auto)]
 
-ghost use Rattle.std.specs.Prelude.{◌≡◌, ◌+◌, ◌*◌, ◌^◌};
+ghost use Rattle.std.specs.Prelude.{◌≡◌, ◌+◌, ◌^◌};
 ghost use Rattle.profile.specs.Profile.{shape_of, record_length};
 ghost use Rattle.profile.specs.Table.{is_record};
 ghost use Rattle.profile_record.specs.Step.{step_of};
 
 use profile::PROFILE_COUNT;
-
-// A record, by the length of its name, or the number of the table's refusal.
-#[derive(Clone, Copy)]
-pub enum Step {
-    Next(usize),
-    Stop(u8),
-}
+use refusal::Refusal;
 
 // How long a record of a version is besides its name.
 pub fn record_length(version: u8) -> usize
@@ -30,13 +24,6 @@ fn highest_flags(version: u8) -> u8
     3
 }
 
-// The number of two bytes, the high one first.
-fn pair(high: u8, low: u8) -> usize
-    ensures { result ≡ high * 256 + low }
-{
-    (high as usize) * 256 + (low as usize)
-}
-
 // Whether a well-formed record of a version is at the front of bytes.
 pub fn is_record(version: u8, bytes: &[u8]) -> bool
     ensures { result ≡ is_record (shape_of version) bytes.now }
@@ -47,7 +34,7 @@ pub fn is_record(version: u8, bytes: &[u8]) -> bool
     if bytes.len() < fixed + n {
         return false;
     }
-    if pair(bytes[0], bytes[1]) != fixed - 2 + n {
+    if usize::from(u16::from_be_bytes([bytes[0], bytes[1]])) != fixed - 2 + n {
         return false;
     }
     if highest < bytes[2] {
@@ -56,20 +43,20 @@ pub fn is_record(version: u8, bytes: &[u8]) -> bool
     names_order::is_raised_name(&bytes[4..4 + n], names::PROFILE_LIMIT)
 }
 
-// The record at the front of bytes, after `count` profiles, the last of which has the name `before`: 31 where there is
-// none, or 32 where it is one too many or its name does not come after that one.
-pub fn next_record(version: u8, bytes: &[u8], before: &[u8], count: usize) -> Step
+// The record at the front of bytes, by the length of its name, after `count` profiles, the last of which has the name
+// `before`: 31 where there is none, or 32 where it is one too many or its name does not come after that one.
+pub fn next_record(version: u8, bytes: &[u8], before: &[u8], count: usize) -> Result<usize, Refusal>
     ensures { result ≡ step_of (shape_of version) count before.now bytes.now }
 {
     if !is_record(version, bytes) {
-        return Step::Stop(refusal::BAD_PROFILE);
+        return Err(Refusal::BadProfile);
     }
     if PROFILE_COUNT <= count {
-        return Step::Stop(refusal::PROFILES_NOT_ASCENDING);
+        return Err(Refusal::ProfilesNotAscending);
     }
     let n = octets_part::byte_at(bytes, 3) as usize;
     if !names_order::precedes(before, &bytes[4..4 + n]) {
-        return Step::Stop(refusal::PROFILES_NOT_ASCENDING);
+        return Err(Refusal::ProfilesNotAscending);
     }
-    Step::Next(n)
+    Ok(n)
 }

@@ -1,5 +1,6 @@
 -- What is found in a table is the profile that has the name and is at the place: the theorem
 -- `Theorems.FoundIsNamed`. Assumes nothing.
+use Rattle.std.specs.Prelude.{Ok}
 use mathlib.Core.Path.{◌≡◌, refl, sym, ap, ◌∙◌}
 use mathlib.Core.List.{List, [], ◌∷◌, ◌++◌}
 use Prim.Native.Nat.{ℕ, ◌+◌}
@@ -20,7 +21,7 @@ use Rattle.profile_table.specs.Theorems.{Tells, FoundIsNamed}
 
 -- the records of profiles begin at a place
 tells-from : (table before : List ℕ) (at : ℕ) (ps : List Profile) → Ascending (shape_in table) before ps → drop at table ≡ records_bytes ps
-    → (name : List ℕ) → Tells table (profile_named name ps) (found_from at name ps)
+    → (name : List ℕ) → Tells table (profile_named name ps) (Ok (found_from at name ps))
 unfolding profile_named found_from records_bytes
 tells-from table before at [] asc there name = refl
 tells-from table before at (p ∷ ps) (w, (o, asc)) there name =
@@ -28,7 +29,7 @@ tells-from table before at (p ∷ ps) (w, (o, asc)) there name =
     sym (ap (profile_at (shape_in table)) there ∙ (fronts (shape_in table) p (records_bytes ps) w (short (version_of table))).says) in
     let after : drop (at + length (record_bytes p)) table ≡ records_bytes ps =
     sym (drop-drop (length (record_bytes p)) at table) ∙ ap (drop (length (record_bytes p))) there ∙ drop-append_seam (record_bytes p) (records_bytes ps) in
-    choice₂ (Tells table) (same name p.name)
+    choice₂ (λ l f. Tells table l (Ok f)) (same name p.name)
     (λ _. (ap one_profile here, ap (entry at) here))
     (λ _. tells-from table p.name (at + length (record_bytes p)) ps asc after name)
 

@@ -1,5 +1,5 @@
 -- A whole table: its version, what its scan says of the count, and names that are in no table. Assumes nothing.
-use Rattle.std.specs.Prelude.{if◌then◌else◌}
+use Rattle.std.specs.Prelude.{if◌then◌else◌, Option, None, Result, Ok, Err}
 use mathlib.Core.Path.{◌≡◌, refl, sym, ap, subst, ◌∙◌}
 use mathlib.Core.Bool.{Bool, true, false}
 use mathlib.Core.List.{List, [], ◌∷◌}
@@ -14,7 +14,8 @@ use Rattle.octets.specs.Bytes.{Bytes}
 use Rattle.octets.specs.Same.{same}
 use Rattle.octets.proofs.Choice.{choice}
 use Rattle.octets.proofs.Equality.{same-sound}
-use Rattle.refusal.specs.Refusal.{bad_table}
+use Rattle.refusal.specs.declared.Refusal.{Refusal}
+use Rattle.refusal.specs.declared.Refusal.TheVariants.{BadTable}
 use Rattle.names.specs.declared.Name.{Name}
 use Rattle.names.specs.Name.{raised, is_name, is_raised_name, name, named, profile_limit}
 use Rattle.names.specs.Padding.{filled}
@@ -23,20 +24,17 @@ use Rattle.profile.specs.Profile.{Shape, Profile, record_bytes}
 use Rattle.profile.specs.Table.{profile_count, profiles_from, TableReading, profiles, table_refused, table_of, shape_in}
 use Rattle.profile.specs.Theorems.{Ascending}
 use Rattle.profile.proofs.Backs.{TableMeans, table-means}
-use Rattle.profile_table.specs.declared.TableCheck.TheVariants.{Profiles, Refused as NotRead}
 use Rattle.profile_table.specs.declared.Entry.{Entry}
 use Rattle.profile_table.specs.declared.Scan.{Scan}
-use Rattle.profile_table.specs.declared.Found.{Found}
-use Rattle.profile_table.specs.declared.Found.TheVariants.{Present, Absent, Refused}
-use Rattle.profile_table.specs.Answer.{checked, entry, found_from, found_in}
+use Rattle.profile_table.specs.Answer.{checked, found_from, found_in}
 use Rattle.profile_table.specs.Internal.Steps.{scanned}
 
-pub no_table : (t : List ℕ) → length t ≡ 0 → table_of t ≡ table_refused bad_table
+pub no_table : (t : List ℕ) → length t ≡ 0 → table_of t ≡ table_refused BadTable
 unfolding table_of
 no_table [] h = refl
 no_table (v ∷ bs) h = absurd (omega arith)
 
-pub other-version : (t : List ℕ) → 0 < length t → (get_or t 0 0 ≡ 1 → ⊥) → table_of t ≡ table_refused bad_table
+pub other-version : (t : List ℕ) → 0 < length t → (get_or t 0 0 ≡ 1 → ⊥) → table_of t ≡ table_refused BadTable
 unfolding table_of
 other-version [] h n = absurd (omega arith)
 other-version (v ∷ bs) h n = rw (ne_eqb v 1 n)
@@ -46,39 +44,32 @@ unfolding table_of
 by-records [] h e = absurd (omega arith)
 by-records (v ∷ bs) h e = rw (eq-eqb v 1 e)
 
--- what is found among profiles is none of them, or one
-found_among : (P : Found → Type 0) → P Absent → ((e : Entry) → P (Present e)) → (at : ℕ) (n : List ℕ) (ps : List Profile) → P (found_from at n ps)
-unfolding found_from
-found_among P none one at n [] = none
-found_among P none one at n (p ∷ ps) =
-    choice P (same n p.name) (λ _. one (entry at p)) (λ _. found_among P none one (at + length (record_bytes p)) n ps)
+-- what is answered of a scan: its count, and what it found
+abbrev pub count_of : Result Scan Refusal → Result ℕ Refusal
+count_of (Ok s) = Ok s.count
+count_of (Err e) = Err e
 
--- how a table is checked, by what was found and counted
-abbrev pub Counted : TableReading → ℕ → Found → Type 0
-Counted r count Absent = Profiles count ≡ checked r
-Counted r count (Present e) = Profiles count ≡ checked r
-Counted r count (Refused n) = NotRead n ≡ checked r
+abbrev pub found_of : Result Scan Refusal → Result (Option Entry) Refusal
+found_of (Ok s) = Ok s.found
+found_of (Err e) = Err e
 
-scan-counts : (n : List ℕ) (r : TableReading) → Counted r (scanned n r).count (scanned n r).found
+pub counted : (n : List ℕ) (r : TableReading) → count_of (scanned n r) ≡ checked r
 unfolding checked
-scan-counts n (profiles ps) = found_among (Counted (profiles ps) (0 + length ps)) (rw zero-add) (λ e. rw zero-add) 1 n ps
-scan-counts n (table_refused m) = refl
+counted n (profiles ps) = rw zero-add
+counted n (table_refused e) = refl
 
-pub counted : (n : List ℕ) (r : TableReading) (s : Scan) (f : Found) → s ≡ scanned n r → s.found ≡ f → Counted r s.count f
-counted n r s f e g = subst (Counted r s.count) g (subst (λ (s : Scan). Counted r s.count s.found) (sym e) (scan-counts n r))
-
-scan-finds : (n : List ℕ) (r : TableReading) → (scanned n r).found ≡ found_in n r
+pub scan-finds : (n : List ℕ) (r : TableReading) → found_of (scanned n r) ≡ found_in n r
 unfolding found_in
 scan-finds n (profiles ps) = refl
-scan-finds n (table_refused m) = refl
+scan-finds n (table_refused e) = refl
 
 -- a text that is no raised name is in no table
 unnamed-from : (s : Shape) (before n : List ℕ) (at : ℕ) (ps : List Profile) → is_raised_name profile_limit n ≡ false → Ascending s before ps
-    → found_from at n ps ≡ Absent
+    → found_from at n ps ≡ None
 unfolding found_from
 unnamed-from s before n at [] bad asc = refl
 unnamed-from s before n at (p ∷ ps) bad (w, (o, asc)) =
-    choice (λ f. f ≡ Absent) (same n p.name)
+    choice (λ f. f ≡ None) (same n p.name)
     (λ t.
     let e = same-sound n p.name (passes (same n p.name) t) in
     let good : T (is_raised_name profile_limit n) = subst (λ (l : List ℕ). T (is_raised_name profile_limit l)) (sym e) w.name in
@@ -87,7 +78,8 @@ unnamed-from s before n at (p ∷ ps) bad (w, (o, asc)) =
 
 unnamed : (t m n : List ℕ) (r : TableReading) → TableMeans t r → is_raised_name profile_limit m ≡ false → is_raised_name profile_limit n ≡ false → found_in m r ≡ found_in n r
 unfolding found_in
-unnamed t m n (profiles ps) means a b = unnamed-from (shape_in t) [] m 1 ps a means.ascending ∙ sym (unnamed-from (shape_in t) [] n 1 ps b means.ascending)
+unnamed t m n (profiles ps) means a b =
+    ap Ok (unnamed-from (shape_in t) [] m 1 ps a means.ascending ∙ sym (unnamed-from (shape_in t) [] n 1 ps b means.ascending))
 unnamed t m n (table_refused k) means a b = refl
 
 -- the name that is held of a text finds what the text raised finds
@@ -113,5 +105,5 @@ module _ (t text : List ℕ) (bytes : Bytes t) (h : Name) (e : h ≡ named profi
       none-held)
 
   -- and so does the scan for it
-  pub scan-held : (s : Scan) → s ≡ scanned (take (h.length - 0) h.bytes) (table_of t) → s.found ≡ found_in (raised text) (table_of t)
-  scan-held s g = ap (λ (s : Scan). s.found) g ∙ scan-finds (take (h.length - 0) h.bytes) (table_of t) ∙ found-held.1
+  pub scan-held : (s : Result Scan Refusal) → s ≡ scanned (take (h.length - 0) h.bytes) (table_of t) → found_of s ≡ found_in (raised text) (table_of t)
+  scan-held s g = ap found_of g ∙ scan-finds (take (h.length - 0) h.bytes) (table_of t) ∙ found-held.1

@@ -1,4 +1,3 @@
 pub mod Answer
-pub mod Refusals
 pub mod Theorems
 pub mod Internal

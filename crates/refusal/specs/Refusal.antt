@@ -1,5 +1,7 @@
 -- The refusal numbers of the specification, "Refusal numbers", each by name, with what the table says of it.
 use Rattle.std.specs.Prelude.{ℕ, List, [], ◌∷◌}
+use Rattle.refusal.specs.declared.Refusal.{Refusal}
+use Rattle.refusal.specs.declared.Refusal.TheVariants.{CutShort, Undoubled, PayloadTooLong, NoRoom, PastTheEnd, BadCommand, NotWritable, NotCarried, AlreadySo, UnderWay, AlreadyQueued, OffAnsweredByOn, NotIsOrInfo, NoVariable, BadEscape, ValueInValue, TooManyVariables, RepeatedVariable, BadVariableRecord, BadTable, BadProfile, ProfilesNotAscending, BadProfileName, BadPassword, BadServerSeed, BadDeviceOrSystemName, BadFrameLength, BadRecordType, BadDataFlow, BadHeaderLength, ReservedFlag, BadOperation, RecordHeld, NoneHeld, InboundFrame}
 
 -- Framing
 
@@ -159,3 +161,41 @@ numbers =
     too_many_variables ∷ repeated_variable ∷ bad_variable_record ∷ bad_table ∷ bad_profile ∷ profiles_not_ascending ∷
     bad_profile_name ∷ bad_password ∷ bad_server_seed ∷ bad_device_or_system_name ∷ bad_frame_length ∷ bad_record_type ∷
     bad_data_flow ∷ bad_header_length ∷ reserved_flag ∷ bad_operation ∷ record_held ∷ none_held ∷ inbound_frame ∷ []
+
+-- the number of a refusal
+abbrev pub number : Refusal → ℕ
+number CutShort = cut_short
+number Undoubled = undoubled
+number PayloadTooLong = payload_too_long
+number NoRoom = no_room
+number PastTheEnd = past_the_end
+number BadCommand = bad_command
+number NotWritable = not_writable
+number NotCarried = not_carried
+number AlreadySo = already_so
+number UnderWay = under_way
+number AlreadyQueued = already_queued
+number OffAnsweredByOn = off_answered_by_on
+number NotIsOrInfo = not_is_or_info
+number NoVariable = no_variable
+number BadEscape = bad_escape
+number ValueInValue = value_in_value
+number TooManyVariables = too_many_variables
+number RepeatedVariable = repeated_variable
+number BadVariableRecord = bad_variable_record
+number BadTable = bad_table
+number BadProfile = bad_profile
+number ProfilesNotAscending = profiles_not_ascending
+number BadProfileName = bad_profile_name
+number BadPassword = bad_password
+number BadServerSeed = bad_server_seed
+number BadDeviceOrSystemName = bad_device_or_system_name
+number BadFrameLength = bad_frame_length
+number BadRecordType = bad_record_type
+number BadDataFlow = bad_data_flow
+number BadHeaderLength = bad_header_length
+number ReservedFlag = reserved_flag
+number BadOperation = bad_operation
+number RecordHeld = record_held
+number NoneHeld = none_held
+number InboundFrame = inbound_frame

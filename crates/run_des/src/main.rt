@@ -8,8 +8,6 @@
 // vector 1234567890ABCDEF is added to the first block, since the chain here starts from zeros.
 #![tactic(auto)]
 
-ghost use Rattle.std.specs.Prelude.{◌≤◌, length};
-
 fn eight(digits: &[u8]) -> [u8; 8] {
     let mut bytes = [0u8; 8];
     show::read_hex(digits, &mut bytes);
@@ -21,15 +19,10 @@ fn number(digits: &[u8]) -> u64 {
 }
 
 // Sixteen round keys of 16 digits each.
-fn round_keys(digits: &[u8]) -> [[u8; 8]; 16]
-    requires { 256 ≤ length digits.now }
-{
+fn round_keys(digits: &[u8]) -> [[u8; 8]; 16] {
     let mut keys = [[0u8; 8]; 16];
-    let mut i = 0;
-    while i < 16 {
-        let at = 16 * i;
-        keys[i] = eight(&digits[at..at + 16]);
-        i += 1;
+    for (key, digits) in keys.iter_mut().zip(digits.chunks_exact(16)) {
+        *key = eight(digits);
     }
     keys
 }
@@ -58,23 +51,13 @@ fn run_line(line: &[u8]) {
     }
 }
 
-fn run(text: &[u8]) {
-    let mut at = 0;
-    while at < text.len() {
-        run_line(show_case::line_at(text, at));
-        at = show_case::after_line(text, at);
-    }
-}
-
 fn say_chain(blocks: &[u64]) {
     io::print_hex(1, des_cipher::cbc_last(0x0123456789ABCDEF, blocks), 16);
     io::write_all(1, b"\n");
 }
 
 fn main() {
-    let mut input = [0u8; 16384];
-    let n = io::read_full(0, &mut input);
-    run(&input[..n]);
+    show_case::each_input_line::<16384, _>(run_line);
     let text: [u64; 3] = [
         0x4E6F772069732074 ^ 0x1234567890ABCDEF,
         0x68652074696D6520,

@@ -49,8 +49,7 @@ fn say_count(name: &[u8], n: u64) {
 }
 
 fn say_state(peer: Peer) {
-    let side = peer.side;
-    match side {
+    match peer.side {
         Side::Off => say(b" Off"),
         Side::On => say(b" On"),
         Side::WantOff => say(b" WantOff"),
@@ -69,8 +68,7 @@ fn say_command(command: Command) {
 
 fn say_coming(name: &[u8], peer: Peer) {
     say(name);
-    let line = peer.line;
-    match line {
+    match peer.line {
         Line::Empty => say(b" -"),
         Line::One(first) => say_command(first),
         Line::Two(first, second) => {
@@ -99,46 +97,35 @@ fn run_case(case: &[u8]) {
 }
 
 fn run_line(line: &[u8]) {
-    let mut case = [0u8; 64];
-    let n = show_case::begin_case(line, &mut case);
-    run_case(octets_part::part(&case, 0, n));
+    show_case::with_case::<64, _>(line, run_case);
     say(b"\n");
 }
 
-fn run(text: &[u8]) {
-    let mut at = 0;
-    while at < text.len() {
-        run_line(show_case::line_at(text, at));
-        at = show_case::after_line(text, at);
-    }
-}
-
 fn depth(peer: Peer) -> u64 {
-    let line = peer.line;
-    match line {
+    match peer.line {
         Line::Empty => 0,
         Line::One(_) => 1,
         Line::Two(_, _) => 2,
     }
 }
 
-fn greater(a: u64, b: u64) -> u64 {
-    if a < b { b } else { a }
+// Whether an end is on, where it rests and nothing is under way to it.
+fn resting(peer: Peer) -> Option<bool> {
+    match peer.line {
+        Line::Empty => {}
+        _ => return None,
+    }
+    match peer.side {
+        Side::Off => Some(false),
+        Side::On => Some(true),
+        _ => None,
+    }
 }
 
-// Off, on, or, where it does not rest or something is under way to it, `neither`.
-fn resting(peer: Peer, neither: u8) -> u8 {
-    if 0 < depth(peer) {
-        return neither;
-    }
-    let side = peer.side;
-    match side {
-        Side::Off => 0,
-        Side::On => 1,
-        Side::WantOff => neither,
-        Side::WantOffThenOn => neither,
-        Side::WantOn => neither,
-        Side::WantOnThenOff => neither,
+fn agree(near: Peer, far: Peer) -> bool {
+    match resting(near) {
+        Some(on) => resting(far) == Some(on),
+        None => false,
     }
 }
 
@@ -173,31 +160,29 @@ fn one_night(run: u32) -> Night {
     let early = option_ends::replay(option_rules::TERMINAL_TYPE, &calls[..5]);
     let late = option_ends::replay(option_rules::TERMINAL_TYPE, &calls);
     Night {
-        deep: greater(depth(early.near), depth(early.far)),
+        deep: depth(early.near).max(depth(early.far)),
         sent: late.sent,
         granted: late.granted,
-        rests: resting(late.near, 2) == resting(late.far, 3),
+        rests: agree(late.near, late.far),
     }
 }
 
 // The sums are far from where they would wrap: a run has at most fifteen calls.
 fn every_night() -> Tally {
-    let mut deep = 0;
-    let mut most = 0;
+    let mut deep = 0u64;
+    let mut most = 0u64;
     let mut restless = 0;
-    let mut sent = 0;
-    let mut granted = 0;
-    let mut run = 0;
-    while run < RUNS {
+    let mut sent = 0u64;
+    let mut granted = 0u64;
+    for run in 0..RUNS {
         let n = one_night(run);
-        deep = greater(deep, n.deep);
-        most = greater(most, n.sent);
-        sent = std::num::wrapping_add_u64(sent, n.sent);
-        granted = std::num::wrapping_add_u64(granted, n.granted);
+        deep = deep.max(n.deep);
+        most = most.max(n.sent);
+        sent = sent.wrapping_add(n.sent);
+        granted = granted.wrapping_add(n.granted);
         if !n.rests {
             restless += 1;
         }
-        run += 1;
     }
     Tally {
         deep,
@@ -219,8 +204,6 @@ fn say_tally(all: Tally) {
 }
 
 fn main() {
-    let mut input = [0u8; 4096];
-    let n = io::read_full(0, &mut input);
-    run(&input[..n]);
+    show_case::each_input_line::<4096, _>(run_line);
     say_tally(every_night());
 }

@@ -10,24 +10,25 @@
 ghost use Rattle.std.specs.Prelude.{◌≤◌};
 
 use env::{RECORD_WIDTH, VariableRecord};
-use env_delivery::Answer;
+use env_delivery::Payload;
 use env_list::read_records;
 use octets_part::part;
+use refusal::Refusal;
 use show_numbers::number_at;
 
 fn say(text: &[u8]) {
     io::write_all(1, text);
 }
 
-fn say_answer(answer: Answer) {
+fn say_answer(answer: Result<Payload, Refusal>) {
     match answer {
-        Answer::Read(first, count, used) => {
+        Ok(p) => {
             say(b" read");
-            show_case::say_numbers(&[first as usize, count, used]);
+            show_case::say_numbers(&[p.first as usize, p.count, p.used]);
         }
-        Answer::Refused(n) => {
+        Err(e) => {
             say(b" refused");
-            show_case::say_values(&[n]);
+            show_case::say_values(&[e.number()]);
         }
     }
 }
@@ -62,13 +63,9 @@ fn read_into(payload: &[u8], bytes: &mut [u8], n: usize, v: VariableRecord) -> [
     records
 }
 
-fn say_records(records: [VariableRecord; 66], n: usize)
-    requires { n ≤ 66 }
-{
-    let mut i: usize = 0;
-    while i < n {
-        say_record(records[i]);
-        i += 1;
+fn say_records(records: &[VariableRecord]) {
+    for v in records {
+        say_record(*v);
     }
 }
 
@@ -85,7 +82,7 @@ fn read_list(payload: &[u8], bytes: &mut [u8], n: usize)
     };
     let records = read_into(payload, bytes, n, sevens);
     say_bytes(bytes);
-    say_records(records, n);
+    say_records(&records[..n]);
     say(b"\n");
 }
 
@@ -114,21 +111,9 @@ fn run_line(line: &[u8]) {
         say(b"\n");
         return;
     }
-    let mut case = [0u8; 2200];
-    let n = show_case::begin_case(line, &mut case);
-    run_case(part(&case, 0, n));
-}
-
-fn run(text: &[u8]) {
-    let mut at = 0;
-    while at < text.len() {
-        run_line(show_case::line_at(text, at));
-        at = show_case::after_line(text, at);
-    }
+    show_case::with_case::<2200, _>(line, run_case);
 }
 
 fn main() {
-    let mut input = [0u8; 81920];
-    let n = io::read_full(0, &mut input);
-    run(&input[..n]);
+    show_case::each_input_line::<81920, _>(run_line);
 }

@@ -9,7 +9,8 @@
 // by a Python rendering of RFC 1572 as the specification reads it, with change request No. 3.
 #![tactic(auto)]
 
-use env_delivery::Answer;
+use env_delivery::Payload;
+use refusal::Refusal;
 
 fn say(text: &[u8]) {
     io::write_all(1, text);
@@ -33,16 +34,16 @@ fn say_spaced(n: usize) {
     say_number(b" ", n);
 }
 
-fn say_read(first: u8, count: usize, used: usize) {
-    say_number(b" read ", first as usize);
-    say_spaced(count);
-    say_spaced(used);
+fn say_read(payload: Payload) {
+    say_number(b" read ", payload.first as usize);
+    say_spaced(payload.count);
+    say_spaced(payload.used);
 }
 
-fn say_answer(answer: Answer) {
+fn say_answer(answer: Result<Payload, Refusal>) {
     match answer {
-        Answer::Read(first, count, used) => say_read(first, count, used),
-        Answer::Refused(n) => say_number(b" refused ", n as usize),
+        Ok(payload) => say_read(payload),
+        Err(e) => say_number(b" refused ", e.number() as usize),
     }
 }
 
@@ -81,21 +82,9 @@ fn run_line(line: &[u8]) {
         say(b"\n");
         return;
     }
-    let mut case = [0u8; 2200];
-    let n = show_case::begin_case(line, &mut case);
-    run_case(octets_part::part(&case, 0, n));
-}
-
-fn run(text: &[u8]) {
-    let mut at = 0;
-    while at < text.len() {
-        run_line(show_case::line_at(text, at));
-        at = show_case::after_line(text, at);
-    }
+    show_case::with_case::<2200, _>(line, run_case);
 }
 
 fn main() {
-    let mut input = [0u8; 81920];
-    let n = io::read_full(0, &mut input);
-    run(&input[..n]);
+    show_case::each_input_line::<81920, _>(run_line);
 }

@@ -30,11 +30,11 @@ fn say_bytes(bytes: &[u8]) {
     }
 }
 
-fn say_place(place: ValuePlace) {
+fn say_place(place: Option<ValuePlace>) {
     match place {
-        ValuePlace::Absent => say(b" absent"),
-        ValuePlace::At(at, n) => {
-            say_number(b" ", n);
+        None => say(b" absent"),
+        Some(ValuePlace { at, length }) => {
+            say_number(b" ", length);
             say_number(b" at ", at);
             say(b";");
         }
@@ -93,21 +93,9 @@ fn run_line(line: &[u8]) {
         say(b"\n");
         return;
     }
-    let mut case = [0u8; 256];
-    let n = show_case::begin_case(line, &mut case);
-    run_case(part(&case, 0, n));
-}
-
-fn run(text: &[u8]) {
-    let mut at = 0;
-    while at < text.len() {
-        run_line(show_case::line_at(text, at));
-        at = show_case::after_line(text, at);
-    }
+    show_case::with_case::<256, _>(line, run_case);
 }
 
 fn main() {
-    let mut input = [0u8; 16384];
-    let n = io::read_full(0, &mut input);
-    run(&input[..n]);
+    show_case::each_input_line::<16384, _>(run_line);
 }

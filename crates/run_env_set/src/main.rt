@@ -8,6 +8,7 @@
 
 use env::VariableRecord;
 use env_list::{get, set};
+use octets_part::byte_at;
 
 fn say_record(v: VariableRecord) {
     show_case::say_numbers(&[
@@ -57,22 +58,10 @@ fn run_case(i: u8, k: u8) {
 }
 
 fn run_line(line: &[u8]) {
-    let mut case = [0u8; 2];
-    show_case::begin_case(line, &mut case);
-    run_case(case[0], case[1]);
+    show_case::with_case::<2, _>(line, |case| run_case(byte_at(case, 0), byte_at(case, 1)));
     io::write_all(1, b"\n");
 }
 
-fn run(text: &[u8]) {
-    let mut at = 0;
-    while at < text.len() {
-        run_line(show_case::line_at(text, at));
-        at = show_case::after_line(text, at);
-    }
-}
-
 fn main() {
-    let mut input = [0u8; 1024];
-    let n = io::read_full(0, &mut input);
-    run(&input[..n]);
+    show_case::each_input_line::<1024, _>(run_line);
 }

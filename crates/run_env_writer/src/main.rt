@@ -10,7 +10,7 @@
 #![tactic(auto)]
 
 use octets_part::part;
-use refusal::Written;
+use refusal::Refusal;
 use show_numbers::{number_at, put_numbers};
 
 fn say(text: &[u8]) {
@@ -31,10 +31,10 @@ fn say_bytes(bytes: &[u8]) {
     }
 }
 
-fn say_answer(answer: Written) {
+fn say_answer(answer: Result<usize, Refusal>) {
     match answer {
-        Written::Wrote(n) => say_number(b" wrote ", n),
-        Written::Refused(n) => say_number(b" refused ", n as usize),
+        Ok(n) => say_number(b" wrote ", n),
+        Err(e) => say_number(b" refused ", e.number() as usize),
     }
 }
 
@@ -83,21 +83,9 @@ fn run_line(line: &[u8]) {
         say(b"\n");
         return;
     }
-    let mut case = [0u8; 2200];
-    let n = show_case::begin_case(line, &mut case);
-    run_case(part(&case, 0, n));
-}
-
-fn run(text: &[u8]) {
-    let mut at = 0;
-    while at < text.len() {
-        run_line(show_case::line_at(text, at));
-        at = show_case::after_line(text, at);
-    }
+    show_case::with_case::<2200, _>(line, run_case);
 }
 
 fn main() {
-    let mut input = [0u8; 98304];
-    let n = io::read_full(0, &mut input);
-    run(&input[..n]);
+    show_case::each_input_line::<98304, _>(run_line);
 }

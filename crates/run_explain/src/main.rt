@@ -29,22 +29,12 @@ fn run_case(case: &[u8]) {
 }
 
 fn run_line(line: &[u8]) {
-    let mut case = [0u8; 2048];
-    let n = show_case::begin_case(line, &mut case);
-    io::write_all(1, b" ");
-    run_case(octets_part::part(&case, 0, n));
-}
-
-fn run(text: &[u8]) {
-    let mut at = 0;
-    while at < text.len() {
-        run_line(show_case::line_at(text, at));
-        at = show_case::after_line(text, at);
-    }
+    show_case::with_case::<2048, _>(line, |case| {
+        io::write_all(1, b" ");
+        run_case(case)
+    });
 }
 
 fn main() {
-    let mut input = [0u8; 131072];
-    let n = io::read_full(0, &mut input);
-    run(&input[..n]);
+    show_case::each_input_line::<131072, _>(run_line);
 }

@@ -59,22 +59,10 @@ fn run_case(case: &[u8]) {
 }
 
 fn run_line(line: &[u8]) {
-    let mut case = [0u8; 1100];
-    let n = show_case::begin_case(line, &mut case);
-    run_case(octets_part::part(&case, 0, n));
+    show_case::with_case::<1100, _>(line, run_case);
     io::write_all(1, b"\n");
 }
 
-fn run(text: &[u8]) {
-    let mut at = 0;
-    while at < text.len() {
-        run_line(show_case::line_at(text, at));
-        at = show_case::after_line(text, at);
-    }
-}
-
 fn main() {
-    let mut input = [0u8; 16384];
-    let n = io::read_full(0, &mut input);
-    run(&input[..n]);
+    show_case::each_input_line::<16384, _>(run_line);
 }

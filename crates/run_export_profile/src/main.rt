@@ -41,10 +41,8 @@ fn put_record(n: u64, table: &mut [u8], at: usize) -> usize {
 
 fn put_records(table: &mut [u8], at: usize) -> usize {
     let mut place = at;
-    let mut n: u64 = 100;
-    while n < 600 {
+    for n in 100..600 {
         place = put_record(n, table, place);
-        n += 1;
     }
     place
 }
@@ -86,22 +84,10 @@ fn run_case(case: &[u8]) {
 }
 
 fn run_line(line: &[u8]) {
-    let mut case = [0u8; 512];
-    let n = show_case::begin_case(line, &mut case);
-    run_case(octets_part::part(&case, 0, n));
+    show_case::with_case::<512, _>(line, run_case);
     io::write_all(1, b"\n");
 }
 
-fn run(text: &[u8]) {
-    let mut at = 0;
-    while at < text.len() {
-        run_line(show_case::line_at(text, at));
-        at = show_case::after_line(text, at);
-    }
-}
-
 fn main() {
-    let mut input = [0u8; 16384];
-    let n = io::read_full(0, &mut input);
-    run(&input[..n]);
+    show_case::each_input_line::<16384, _>(run_line);
 }

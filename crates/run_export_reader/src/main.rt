@@ -76,37 +76,26 @@ fn named(case: &[u8]) -> TvReader {
 
 fn run_case(reader: TvReader, kept: &mut [u8; PAYLOAD_LIMIT], case: &[u8]) -> TvReader {
     match octets_part::byte_at(case, 0) {
-        0 => return say_reader(export_reader::tv_reader_fresh()),
-        1 => return call_with(reader, kept, case),
-        2 => return close(reader),
-        3 => return say_reader(export_reader::tv_reader_reset(reader)),
+        0 => say_reader(export_reader::tv_reader_fresh()),
+        1 => call_with(reader, kept, case),
+        2 => close(reader),
+        3 => say_reader(export_reader::tv_reader_reset(reader)),
         _ => {
-            *kept = [0x5Au8; PAYLOAD_LIMIT];
-            return named(case);
+            kept.fill(0x5A);
+            named(case)
         }
     }
 }
 
 fn run_line(reader: TvReader, kept: &mut [u8; PAYLOAD_LIMIT], line: &[u8]) -> TvReader {
-    let mut case = [0u8; 1100];
-    let n = show_case::begin_case(line, &mut case);
-    let next = run_case(reader, kept, octets_part::part(&case, 0, n));
+    let mut next = reader;
+    show_case::with_case::<1100, _>(line, |case| next = run_case(reader, kept, case));
     io::write_all(1, b"\n");
     next
 }
 
-fn run(text: &[u8]) {
+fn main() {
     let mut reader = export_reader::tv_reader_fresh();
     let mut kept = [0u8; PAYLOAD_LIMIT];
-    let mut at = 0;
-    while at < text.len() {
-        reader = run_line(reader, &mut kept, show_case::line_at(text, at));
-        at = show_case::after_line(text, at);
-    }
-}
-
-fn main() {
-    let mut input = [0u8; 65536];
-    let n = io::read_full(0, &mut input);
-    run(&input[..n]);
+    show_case::each_input_line::<65536, _>(|line| reader = run_line(reader, &mut kept, line));
 }

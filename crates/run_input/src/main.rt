@@ -51,17 +51,12 @@ fn run_line(line: &[u8]) {
     }
 }
 
-// Every line of a text.
+// Every line of a text that has its end.
 fn run(text: &[u8]) {
-    let mut at = 0;
-    while at < text.len() {
-        let end = octets_find::find_byte(text, at, b'\n');
-        if text.len() <= end {
-            return;
+    for line in text.split_inclusive(|b| *b == b'\n') {
+        if line.ends_with(b"\n") {
+            run_line(line);
         }
-        let next = end + 1;
-        run_line(part(text, at, next - at));
-        at = next;
     }
 }
 

@@ -2,47 +2,25 @@
 // more, and for no byte. The program prints how many bytes that is, and the last line of it.
 #![tactic(auto)]
 
-ghost use Rattle.std.specs.Prelude.{◌≡◌, ◌≤◌, length};
-
 use telnet_listing::ROOM;
 
 const STDOUT_FILENO: i32 = 1;
 
 // 41 FF F9, a data run of one byte and a command with a number of three digits, 21,845 times, then 41 and once more 41.
-fn bytes() -> [u8; 65537]
-    ensures { 65537 ≡ length result }
-{
+fn bytes() -> [u8; 65537] {
     let mut input = [0x41u8; 65537];
-    let mut i = 0;
-    while i < 21845 {
+    for i in 0..21845 {
         input[3 * i + 1] = 0xFF;
         input[3 * i + 2] = 0xF9;
-        i += 1;
     }
     input
 }
 
-// Where the last line begins.
-fn last_line(text: &[u8]) -> usize
-    ensures { result ≤ length text.now }
-{
-    if text.len() == 0 {
-        return 0;
-    }
-    let mut i = text.len() - 1;
-    while 0 < i {
-        if text[i - 1] == b'\n' {
-            return i;
-        }
-        i -= 1;
-    }
-    0
-}
-
+// The last line, with its end.
 fn show_last(text: &[u8]) {
-    let n = text.len();
-    let at = last_line(text);
-    io::write_all(STDOUT_FILENO, &text[at..n]);
+    if let Some(line) = text.split_inclusive(|b| *b == b'\n').last() {
+        io::write_all(STDOUT_FILENO, line);
+    }
 }
 
 fn show(input: &[u8]) {

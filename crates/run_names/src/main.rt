@@ -32,15 +32,9 @@ fn say_truth(b: bool) {
     say(b" no");
 }
 
-fn say_one(b: u8) {
-    say_bytes(&[names::ebcdic(b)]);
-}
-
 fn say_ebcdic(bytes: &[u8]) {
-    let mut i = 0;
-    while i < bytes.len() {
-        say_one(bytes[i]);
-        i += 1;
+    for b in bytes {
+        say_bytes(&[names::ebcdic(*b)]);
     }
 }
 
@@ -48,8 +42,7 @@ fn say_name(name: Name) {
     say(b" ");
     io::print_decimal(1, name.length as u64);
     say(b",");
-    let bytes = name.bytes;
-    say_bytes(&bytes);
+    say_bytes(&name.bytes);
 }
 
 fn say_names(text: &[u8]) {
@@ -68,14 +61,10 @@ fn put_in(text: &[u8], width: usize, at: usize, room: usize, out: &mut [u8]) {
     say_bytes(out);
 }
 
-fn wide(b: u8) -> usize {
-    b as usize
-}
-
 fn run_limited(bytes: &[u8]) {
     let n = bytes.len();
     if 1 <= n {
-        say_truth(names::is_name(&bytes[1..n], wide(bytes[0])));
+        say_truth(names::is_name(&bytes[1..n], usize::from(bytes[0])));
     }
 }
 
@@ -84,9 +73,9 @@ fn run_put(bytes: &[u8]) {
     if 3 <= n {
         put_in(
             &bytes[3..n],
-            wide(bytes[2]),
-            wide(bytes[1]),
-            wide(bytes[0]),
+            usize::from(bytes[2]),
+            usize::from(bytes[1]),
+            usize::from(bytes[0]),
             &mut [0x2Eu8; 20],
         );
     }
@@ -102,25 +91,11 @@ fn run_case(letter: u8, bytes: &[u8]) {
 }
 
 fn run_line(line: &[u8]) {
-    let mut case = [0u8; 64];
-    let n = show_case::begin_case(octets_part::part(line, 2, line.len()), &mut case);
-    run_case(
-        octets_part::byte_at(line, 0),
-        octets_part::part(&case, 0, n),
-    );
+    let case = octets_part::part(line, 2, line.len());
+    show_case::with_case::<64, _>(case, |bytes| run_case(octets_part::byte_at(line, 0), bytes));
     say(b"\n");
 }
 
-fn run(text: &[u8]) {
-    let mut at = 0;
-    while at < text.len() {
-        run_line(show_case::line_at(text, at));
-        at = show_case::after_line(text, at);
-    }
-}
-
 fn main() {
-    let mut input = [0u8; 8192];
-    let n = io::read_full(0, &mut input);
-    run(&input[..n]);
+    show_case::each_input_line::<8192, _>(run_line);
 }

@@ -9,24 +9,12 @@
 #![tactic(auto)]
 
 use option_line::Sent;
-use option_rules::Side;
 use option_sides::Sides;
 use option_verbs::Whose;
 use telnet::{Kind, Verb};
 
 fn say(text: &[u8]) {
     io::write_all(1, text);
-}
-
-fn state_of(side: Side) -> usize {
-    match side {
-        Side::Off => 0,
-        Side::On => 1,
-        Side::WantOff => 2,
-        Side::WantOffThenOn => 3,
-        Side::WantOn => 4,
-        Side::WantOnThenOff => 5,
-    }
 }
 
 fn event_of(what: u8, option: u8) -> Kind {
@@ -51,10 +39,10 @@ fn say_line(line: &[u8]) {
 fn say_sent(sent: Sent, option: u8) {
     let sides = sent.sides;
     show_case::say_numbers(&[
-        sent.number as usize,
+        refusal::number_or_0(sent.refusal) as usize,
         sent.place,
-        state_of(sides.side(Whose::Ours, option)),
-        state_of(sides.side(Whose::Other, option)),
+        sides.side(Whose::Ours, option) as usize,
+        sides.side(Whose::Other, option) as usize,
     ]);
 }
 
@@ -83,32 +71,18 @@ fn step_on(sides: Sides, call: &[u8], line: &mut [u8]) -> Sides {
 
 // Every call, from fresh sides on.
 fn run_calls(calls: &[u8]) {
+    say(b"\n");
     let mut line = [0xEEu8; 8];
     let mut sides = Sides::fresh();
-    let mut i = 0;
-    while i < calls.len() / 5 {
-        sides = step_on(sides, octets_part::part(calls, 5 * i, 5), &mut line);
-        i += 1;
+    for call in calls.chunks_exact(5) {
+        sides = step_on(sides, call, &mut line);
     }
 }
 
 fn run_line(line: &[u8]) {
-    let mut case = [0u8; 64];
-    let n = show_case::begin_case(line, &mut case);
-    say(b"\n");
-    run_calls(octets_part::part(&case, 0, n));
-}
-
-fn run(text: &[u8]) {
-    let mut at = 0;
-    while at < text.len() {
-        run_line(show_case::line_at(text, at));
-        at = show_case::after_line(text, at);
-    }
+    show_case::with_case::<64, _>(line, run_calls);
 }
 
 fn main() {
-    let mut input = [0u8; 8192];
-    let n = io::read_full(0, &mut input);
-    run(&input[..n]);
+    show_case::each_input_line::<8192, _>(run_line);
 }

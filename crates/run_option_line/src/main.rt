@@ -10,24 +10,13 @@
 #![tactic(auto)]
 
 use option_line::Sent;
-use option_rules::{Command, Side};
+use option_rules::Command;
 use option_sides::Sides;
 use option_verbs::Whose;
 use telnet::Verb;
 
 fn say(text: &[u8]) {
     io::write_all(1, text);
-}
-
-fn state_of(side: Side) -> usize {
-    match side {
-        Side::Off => 0,
-        Side::On => 1,
-        Side::WantOff => 2,
-        Side::WantOffThenOn => 3,
-        Side::WantOn => 4,
-        Side::WantOnThenOff => 5,
-    }
 }
 
 fn verb_of(call: u8) -> Verb {
@@ -77,10 +66,10 @@ fn say_line(line: &[u8]) {
 fn say_sent(sent: Sent, option: u8) {
     let sides = sent.sides;
     show_case::say_numbers(&[
-        sent.number as usize,
+        refusal::number_or_0(sent.refusal) as usize,
         sent.place,
-        state_of(sides.side(Whose::Ours, option)),
-        state_of(sides.side(Whose::Other, option)),
+        sides.side(Whose::Ours, option) as usize,
+        sides.side(Whose::Other, option) as usize,
     ]);
 }
 
@@ -104,15 +93,14 @@ fn step_on(sides: Sides, call: &[u8], heard: &[u8], line: &mut [u8]) -> Sides {
 fn run_calls(calls: &[u8], heard: &[u8]) {
     let mut line = [0xEEu8; 8];
     let mut sides = Sides::fresh();
-    let mut i = 0;
-    while i < calls.len() / 6 {
-        sides = step_on(sides, octets_part::part(calls, 6 * i, 6), heard, &mut line);
-        i += 1;
+    for call in calls.chunks_exact(6) {
+        sides = step_on(sides, call, heard, &mut line);
     }
 }
 
 // How many calls there are, the calls, and the other end's line.
 fn run_case(case: &[u8]) {
+    say(b"\n");
     let n = 6 * octets_part::byte_at(case, 0) as usize;
     run_calls(
         octets_part::part(case, 1, n),
@@ -121,22 +109,9 @@ fn run_case(case: &[u8]) {
 }
 
 fn run_line(line: &[u8]) {
-    let mut case = [0u8; 128];
-    let n = show_case::begin_case(line, &mut case);
-    say(b"\n");
-    run_case(octets_part::part(&case, 0, n));
-}
-
-fn run(text: &[u8]) {
-    let mut at = 0;
-    while at < text.len() {
-        run_line(show_case::line_at(text, at));
-        at = show_case::after_line(text, at);
-    }
+    show_case::with_case::<128, _>(line, run_case);
 }
 
 fn main() {
-    let mut input = [0u8; 8192];
-    let n = io::read_full(0, &mut input);
-    run(&input[..n]);
+    show_case::each_input_line::<8192, _>(run_line);
 }

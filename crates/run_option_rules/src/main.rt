@@ -8,7 +8,7 @@
 // O3).
 #![tactic(auto)]
 
-use option_rules::{Command, Sending, Side, Step};
+use option_rules::{Command, Side, Step};
 
 fn say(text: &[u8]) {
     io::write_all(1, text);
@@ -52,11 +52,9 @@ fn say_command(command: Command) {
 }
 
 fn say_step(step: Step) {
-    let side = step.side;
-    say_side(side);
-    say_number(step.number);
-    let sends = step.sends;
-    if let Sending::Command(command) = sends {
+    say_side(step.side);
+    say_number(refusal::number_or_0(step.refusal));
+    if let Some(command) = step.sends {
         say_command(command);
     }
 }
@@ -94,10 +92,8 @@ fn say_if_carried(option: u8) {
 }
 
 fn say_carried(options: &[u8]) {
-    let mut i = 0;
-    while i < options.len() {
-        say_if_carried(options[i]);
-        i += 1;
+    for option in options {
+        say_if_carried(*option);
     }
 }
 
@@ -110,22 +106,10 @@ fn run_case(bytes: &[u8]) {
 }
 
 fn run_line(line: &[u8]) {
-    let mut case = [0u8; 256];
-    let n = show_case::begin_case(line, &mut case);
-    run_case(octets_part::part(&case, 0, n));
+    show_case::with_case::<256, _>(line, run_case);
     say(b"\n");
 }
 
-fn run(text: &[u8]) {
-    let mut at = 0;
-    while at < text.len() {
-        run_line(show_case::line_at(text, at));
-        at = show_case::after_line(text, at);
-    }
-}
-
 fn main() {
-    let mut input = [0u8; 16384];
-    let n = io::read_full(0, &mut input);
-    run(&input[..n]);
+    show_case::each_input_line::<16384, _>(run_line);
 }

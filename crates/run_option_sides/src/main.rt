@@ -9,7 +9,7 @@
 // his own side), that table, and the exchanges that RFC 4777 prints in sections 2 and 3.
 #![tactic(auto)]
 
-use option_rules::{Command, Sending, Side};
+use option_rules::{Command, Side};
 use option_sides::{Answered, Sides};
 use option_verbs::{Outgoing, Told, Whose};
 use telnet::Verb;
@@ -32,10 +32,10 @@ fn say_verb(verb: Verb) {
     }
 }
 
-fn say_command(command: Outgoing) {
+fn say_command(command: Option<Outgoing>) {
     match command {
-        Outgoing::Nothing => say(b" nothing"),
-        Outgoing::Command(verb, option) => {
+        None => say(b" nothing"),
+        Some(Outgoing { verb, option }) => {
             say_verb(verb);
             say_number(option);
         }
@@ -44,27 +44,15 @@ fn say_command(command: Outgoing) {
 
 // How we would say it.
 fn say_said(told: Told, option: u8) {
-    let whose = told.whose;
-    let command = told.command;
+    let Told { whose, command } = told;
     say_verb(option_verbs::verb_for(whose, command));
-    say_command(option_verbs::command_for(whose, option, Sending::Command(command)));
+    say_command(option_verbs::command_for(whose, option, Some(command)));
     say(b";");
 }
 
-fn state_of(side: Side) -> u8 {
-    match side {
-        Side::Off => 0,
-        Side::On => 1,
-        Side::WantOff => 2,
-        Side::WantOffThenOn => 3,
-        Side::WantOn => 4,
-        Side::WantOnThenOff => 5,
-    }
-}
-
 fn say_sides(sides: Sides, option: u8) {
-    say_number(state_of(sides.side(Whose::Ours, option)));
-    say_number(state_of(sides.side(Whose::Other, option)));
+    say_number(sides.side(Whose::Ours, option) as u8);
+    say_number(sides.side(Whose::Other, option) as u8);
     say(b"\n");
 }
 
@@ -106,48 +94,30 @@ fn called(sides: Sides, call: u8, option: u8, accept: u8) -> Answered {
     if 4 <= call {
         return sides.receive(verb_of(call), option, accept == 1);
     }
-    let whose = told.whose;
-    let command = told.command;
-    sides.request(whose, option, command)
+    sides.request(told.whose, option, told.command)
 }
 
 fn step(sides: Sides, call: u8, option: u8, accept: u8) -> Sides {
     let answer = called(sides, call, option, accept);
-    say_number(answer.number);
-    let writes = answer.writes;
-    say_command(writes);
-    let next = answer.sides;
-    say_sides(next, option);
-    next
+    say_number(refusal::number_or_0(answer.refusal));
+    say_command(answer.writes);
+    say_sides(answer.sides, option);
+    answer.sides
 }
 
 // Every call, from fresh sides on.
 fn run_calls(bytes: &[u8]) {
+    say(b"\n");
     let mut sides = Sides::fresh();
-    let mut i = 0;
-    while i < bytes.len() / 3 {
-        sides = step(sides, bytes[3 * i], bytes[3 * i + 1], bytes[3 * i + 2]);
-        i += 1;
+    for call in bytes.chunks_exact(3) {
+        sides = step(sides, call[0], call[1], call[2]);
     }
 }
 
 fn run_line(line: &[u8]) {
-    let mut case = [0u8; 64];
-    let n = show_case::begin_case(line, &mut case);
-    say(b"\n");
-    run_calls(octets_part::part(&case, 0, n));
-}
-
-fn run(text: &[u8]) {
-    let mut at = 0;
-    while at < text.len() {
-        run_line(show_case::line_at(text, at));
-        at = show_case::after_line(text, at);
-    }
+    show_case::with_case::<64, _>(line, run_calls);
 }
 
 fn main() {
-    let mut input = [0u8; 8192];
-    let n = io::read_full(0, &mut input);
-    run(&input[..n]);
+    show_case::each_input_line::<8192, _>(run_line);
 }

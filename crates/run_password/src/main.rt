@@ -10,38 +10,38 @@
 // server's seed, `P` whether the password is one for SHA-1, `s` whether the name and the password are the same.
 #![tactic(auto)]
 
-use password_des::Block;
-use password_sha::Hash;
+use refusal::Refusal;
 
-fn say_block(block: Block) {
+fn say_refusal(refusal: Refusal) {
+    io::write_all(1, b" refused ");
+    io::print_decimal(1, refusal.number() as u64);
+}
+
+fn say_block(block: Result<u64, Refusal>) {
     match block {
-        Block::Value(x) => {
+        Ok(x) => {
             io::write_all(1, b" ");
             io::print_hex(1, x, 16);
         }
-        Block::Refused(n) => {
-            io::write_all(1, b" refused ");
-            io::print_decimal(1, n as u64);
-        }
+        Err(refusal) => say_refusal(refusal),
     }
 }
 
-fn say_hash(hash: Hash) {
-    let refusal = hash.refusal;
-    if refusal != 0 {
-        say_block(Block::Refused(refusal));
-        return;
+fn say_hash(hash: Result<[u8; 20], Refusal>) {
+    match hash {
+        Ok(bytes) => {
+            let mut out = [b' '; 41];
+            show::put_hex(&bytes, &mut out, 1);
+            io::write_all(1, &out);
+        }
+        Err(refusal) => say_refusal(refusal),
     }
-    let bytes = hash.bytes;
-    let mut out = [b' '; 41];
-    show::put_hex(&bytes, &mut out, 1);
-    io::write_all(1, &out);
 }
 
 fn by_des(name: &[u8], password: &[u8], server_seed: u64, client_seed: u64) {
     let answer = password_des::des_token(name, password);
     say_block(answer);
-    if let Block::Value(token) = answer {
+    if let Ok(token) = answer {
         say_block(password_des::des_substitute(token, name, server_seed, client_seed));
     }
 }
@@ -49,8 +49,7 @@ fn by_des(name: &[u8], password: &[u8], server_seed: u64, client_seed: u64) {
 fn by_sha(name: &[u8], password: &[u8], server_seed: u64, client_seed: u64) {
     let answer = password_sha::sha_token(name, password);
     say_hash(answer);
-    if answer.refusal == 0 {
-        let token = answer.bytes;
+    if let Ok(token) = answer {
         say_hash(password_sha::sha_substitute(token, name, server_seed, client_seed));
     }
 }
@@ -64,23 +63,13 @@ fn say_yes(yes: bool) {
 }
 
 fn run_texts(letter: u8, name: &[u8], password: &[u8], server_seed: u64, client_seed: u64) {
-    if letter == b'D' {
-        by_des(name, password, server_seed, client_seed);
-        return;
+    match letter {
+        b'D' => by_des(name, password, server_seed, client_seed),
+        b'S' => by_sha(name, password, server_seed, client_seed),
+        b'R' => say_block(Ok(password_des::rdr_seq(server_seed))),
+        b'P' => say_yes(password_sha::is_password(password)),
+        _ => say_yes(octets::same(name, password)),
     }
-    if letter == b'S' {
-        by_sha(name, password, server_seed, client_seed);
-        return;
-    }
-    if letter == b'R' {
-        say_block(Block::Value(password_des::rdr_seq(server_seed)));
-        return;
-    }
-    if letter == b'P' {
-        say_yes(password_sha::is_password(password));
-        return;
-    }
-    say_yes(octets::same(name, password));
 }
 
 // The name begins after the seeds and the two counts.
@@ -106,16 +95,6 @@ fn run_line(line: &[u8]) {
     io::write_all(1, b"\n");
 }
 
-fn run(text: &[u8]) {
-    let mut at = 0;
-    while at < text.len() {
-        run_line(show_case::line_at(text, at));
-        at = show_case::after_line(text, at);
-    }
-}
-
 fn main() {
-    let mut input = [0u8; 8192];
-    let n = io::read_full(0, &mut input);
-    run(&input[..n]);
+    show_case::each_input_line::<8192, _>(run_line);
 }

@@ -18,13 +18,11 @@ fn gives(
     client_seed: &[u8],
     offered: &[u8],
 ) -> bool {
-    if letter == b'D' {
-        return password_check::gives_des(token, name, server_seed, client_seed, offered);
+    match letter {
+        b'D' => password_check::gives_des(token, name, server_seed, client_seed, offered),
+        b'S' => password_check::gives_sha(token, name, server_seed, client_seed, offered),
+        _ => password_check::gives_clear(token, name, offered),
     }
-    if letter == b'S' {
-        return password_check::gives_sha(token, name, server_seed, client_seed, offered);
-    }
-    password_check::gives_clear(token, name, offered)
 }
 
 fn say(answer: bool) {
@@ -65,16 +63,6 @@ fn run_line(line: &[u8]) {
     );
 }
 
-fn run(text: &[u8]) {
-    let mut at = 0;
-    while at < text.len() {
-        run_line(show_case::line_at(text, at));
-        at = show_case::after_line(text, at);
-    }
-}
-
 fn main() {
-    let mut input = [0u8; 32768];
-    let n = io::read_full(0, &mut input);
-    run(&input[..n]);
+    show_case::each_input_line::<32768, _>(run_line);
 }

@@ -8,7 +8,7 @@
 //     z name:          a frame of 65,536 zeros, which cannot say its length
 #![tactic(auto)]
 
-use print_frame::{Direction, Flags, Frame, FrameAnswer, Operation, Part};
+use print_frame::{Direction, Flags, Frame, Operation, Part};
 
 fn say(text: &[u8]) {
     io::write_all(1, text);
@@ -53,23 +53,18 @@ fn say_part(name: &[u8], part: Part) {
 }
 
 fn say_frame(frame: Frame) {
-    let direction = frame.direction;
-    say_direction(direction);
+    say_direction(frame.direction);
     say_if(frame.diagnostics_included, b" diagnosed");
-    let operation = frame.operation;
-    say_operation(operation);
-    let flags = frame.flags;
-    say_flags(flags);
-    let diagnostics = frame.diagnostics;
-    let data = frame.print_data;
-    say_part(b", diagnostics ", diagnostics);
-    say_part(b", data ", data);
+    say_operation(frame.operation);
+    say_flags(frame.flags);
+    say_part(b", diagnostics ", frame.diagnostics);
+    say_part(b", data ", frame.print_data);
 }
 
 fn read(frame: &[u8]) {
     match print_frame::read_frame(frame) {
-        FrameAnswer::Read(f) => say_frame(f),
-        FrameAnswer::Refused(n) => say_number(b"refused ", n as usize),
+        Ok(frame) => say_frame(frame),
+        Err(e) => say_number(b"refused ", e.number() as usize),
     }
 }
 
@@ -82,26 +77,14 @@ fn run_case(letter: u8, bytes: &[u8]) {
 }
 
 fn run_line(line: &[u8]) {
-    let mut case = [0u8; 1024];
-    let n = show_case::begin_case(octets_part::part(line, 2, line.len()), &mut case);
-    say(b" ");
-    run_case(
-        octets_part::byte_at(line, 0),
-        octets_part::part(&case, 0, n),
-    );
-    say(b"\n");
-}
-
-fn run(text: &[u8]) {
-    let mut at = 0;
-    while at < text.len() {
-        run_line(show_case::line_at(text, at));
-        at = show_case::after_line(text, at);
-    }
+    let letter = octets_part::byte_at(line, 0);
+    show_case::with_case::<1024, _>(octets_part::part(line, 2, line.len()), |bytes| {
+        say(b" ");
+        run_case(letter, bytes);
+        say(b"\n");
+    });
 }
 
 fn main() {
-    let mut input = [0u8; 16384];
-    let n = io::read_full(0, &mut input);
-    run(&input[..n]);
+    show_case::each_input_line::<16384, _>(run_line);
 }

@@ -5,34 +5,33 @@
 //     c name: output    a completion, into an output of these bytes
 #![tactic(auto)]
 
-use print_ledger::{Completion, Ledger, Receipt};
+use print_ledger::{Ledger, Receipt};
+use refusal::Refusal;
 
 fn say(text: &[u8]) {
     io::write_all(1, text);
 }
 
-fn refused(n: u8) {
+fn say_refused(e: Refusal) {
     say(b"refused ");
-    io::print_decimal(1, n as u64);
+    io::print_decimal(1, e.number() as u64);
 }
 
-fn say_receipt(receipt: Receipt) {
+fn say_receipt(receipt: Result<Receipt, Refusal>) {
     match receipt {
-        Receipt::Held => say(b"held"),
-        Receipt::Cleared => say(b"cleared"),
-        Receipt::NothingToClear => say(b"nothing to clear"),
-        Receipt::Refused(n) => refused(n),
+        Ok(Receipt::Held) => say(b"held"),
+        Ok(Receipt::Cleared) => say(b"cleared"),
+        Ok(Receipt::NothingToClear) => say(b"nothing to clear"),
+        Err(e) => say_refused(e),
     }
 }
 
-fn say_completion(completion: Completion) {
+fn say_completion(completion: Result<(), Refusal>) {
     match completion {
-        Completion::Written => say(b"written, "),
-        Completion::Refused(n) => {
-            refused(n);
-            say(b", ");
-        }
+        Ok(()) => say(b"written"),
+        Err(e) => say_refused(e),
     }
+    say(b", ");
 }
 
 fn say_hex(bytes: &[u8]) {
@@ -45,15 +44,13 @@ fn say_hex(bytes: &[u8]) {
 
 fn take(ledger: Ledger, frame: &[u8]) -> Ledger {
     let taken = ledger.take_frame(frame);
-    let receipt = taken.receipt;
-    say_receipt(receipt);
+    say_receipt(taken.receipt);
     taken.ledger
 }
 
 fn complete(ledger: Ledger, out: &mut [u8]) -> Ledger {
     let completed = ledger.complete(out);
-    let completion = completed.completion;
-    say_completion(completion);
+    say_completion(completed.completion);
     say_hex(out);
     completed.ledger
 }
@@ -77,18 +74,8 @@ fn run_line(ledger: Ledger, line: &[u8]) -> Ledger {
     after
 }
 
-// Every line of a text, with one ledger.
-fn run(text: &[u8]) {
-    let mut ledger = Ledger::fresh();
-    let mut at = 0;
-    while at < text.len() {
-        ledger = run_line(ledger, show_case::line_at(text, at));
-        at = show_case::after_line(text, at);
-    }
-}
-
+// Every line, with one ledger.
 fn main() {
-    let mut input = [0u8; 16384];
-    let n = io::read_full(0, &mut input);
-    run(&input[..n]);
+    let mut ledger = Ledger::fresh();
+    show_case::each_input_line::<16384, _>(|line| ledger = run_line(ledger, line));
 }

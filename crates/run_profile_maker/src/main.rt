@@ -7,8 +7,6 @@
 // substitutes, verdicts", "Refusal numbers" 4, 33 and 34).
 #![tactic(auto)]
 
-use refusal::Written;
-
 fn say_number(word: &[u8], n: usize) {
     io::write_all(1, word);
     io::print_decimal(1, n as u64);
@@ -24,8 +22,8 @@ fn say_bytes(bytes: &[u8]) {
 
 fn make(name: &[u8], password: &[u8], enabled: bool, des_allowed: bool, out: &mut [u8]) {
     match profile_maker::make_record(name, password, enabled, des_allowed, out) {
-        Written::Wrote(n) => say_number(b" wrote ", n),
-        Written::Refused(n) => say_number(b" refused ", n as usize),
+        Ok(n) => say_number(b" wrote ", n),
+        Err(e) => say_number(b" refused ", e.number() as usize),
     }
     say_bytes(out);
 }
@@ -56,16 +54,6 @@ fn run_line(line: &[u8]) {
     io::write_all(1, b"\n");
 }
 
-fn run(text: &[u8]) {
-    let mut at = 0;
-    while at < text.len() {
-        run_line(show_case::line_at(text, at));
-        at = show_case::after_line(text, at);
-    }
-}
-
 fn main() {
-    let mut input = [0u8; 8192];
-    let n = io::read_full(0, &mut input);
-    run(&input[..n]);
+    show_case::each_input_line::<8192, _>(run_line);
 }

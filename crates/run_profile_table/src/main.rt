@@ -8,7 +8,7 @@
 // substitutes, verdicts", "Refusal numbers" 30 to 32).
 #![tactic(auto)]
 
-use profile_table::{Entry, Found, TableCheck};
+use profile_table::Entry;
 
 fn say_number(word: &[u8], n: usize) {
     io::write_all(1, word);
@@ -36,15 +36,15 @@ fn say_entry(table: &[u8], entry: Entry) {
 
 fn run_table(table: &[u8], name: &[u8]) {
     match profile_table::check(table) {
-        TableCheck::Profiles(n) => say_number(b" profiles ", n),
-        TableCheck::Refused(n) => say_number(b" refused ", n as usize),
+        Ok(n) => say_number(b" profiles ", n),
+        Err(e) => say_number(b" refused ", e.number() as usize),
     }
     match profile_table::find(table, name) {
-        Found::Present(entry) => say_entry(table, entry),
-        Found::Absent => {
+        Ok(Some(entry)) => say_entry(table, entry),
+        Ok(None) => {
             io::write_all(1, b"; absent");
         }
-        Found::Refused(n) => say_number(b"; refused ", n as usize),
+        Err(e) => say_number(b"; refused ", e.number() as usize),
     }
 }
 
@@ -58,10 +58,8 @@ fn put_record(n: u64, table: &mut [u8], at: usize) -> usize {
 // Puts the records of the numbers from 100 up to one; the answer is the place after them.
 fn put_records(end: u64, table: &mut [u8], at: usize) -> usize {
     let mut place = at;
-    let mut n: u64 = 100;
-    while n < end {
+    for n in 100..end {
         place = put_record(n, table, place);
-        n += 1;
     }
     place
 }
@@ -94,16 +92,6 @@ fn run_line(line: &[u8]) {
     io::write_all(1, b"\n");
 }
 
-fn run(text: &[u8]) {
-    let mut at = 0;
-    while at < text.len() {
-        run_line(show_case::line_at(text, at));
-        at = show_case::after_line(text, at);
-    }
-}
-
 fn main() {
-    let mut input = [0u8; 32768];
-    let n = io::read_full(0, &mut input);
-    run(&input[..n]);
+    show_case::each_input_line::<32768, _>(run_line);
 }

@@ -14,17 +14,11 @@ fn say(message: &[u8]) {
     io::write_all(1, &line);
 }
 
-fn sum(b: u8, step: u8) -> u8 {
-    (((b as u32) + (step as u32)) % 256) as u8
-}
-
 fn fill(first: u8, step: u8, message: &mut [u8]) {
     let mut next = first;
-    let mut i = 0;
-    while i < message.len() {
-        message[i] = next;
-        next = sum(next, step);
-        i += 1;
+    for b in message {
+        *b = next;
+        next = next.wrapping_add(step);
     }
 }
 
@@ -42,7 +36,7 @@ fn say_long(first: u8, step: u8, n: usize) {
 
 // The number that three bytes say.
 fn number(high: u8, middle: u8, low: u8) -> usize {
-    (high as usize) * 65536 + (middle as usize) * 256 + (low as usize)
+    u32::from_be_bytes([0, high, middle, low]) as usize
 }
 
 fn run_series(bytes: &[u8]) {
@@ -69,16 +63,6 @@ fn run_line(line: &[u8]) {
     );
 }
 
-fn run(text: &[u8]) {
-    let mut at = 0;
-    while at < text.len() {
-        run_line(show_case::line_at(text, at));
-        at = show_case::after_line(text, at);
-    }
-}
-
 fn main() {
-    let mut input = [0u8; 4096];
-    let n = io::read_full(0, &mut input);
-    run(&input[..n]);
+    show_case::each_input_line::<4096, _>(run_line);
 }

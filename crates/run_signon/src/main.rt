@@ -9,31 +9,32 @@
 // of the specification and of change request No. 3 over these.
 #![tactic(auto)]
 
-use signon::{Answer, Verdict};
+use refusal::Refusal;
+use signon::Verdict;
 
 fn say(text: &[u8]) {
     io::write_all(1, text);
 }
 
-fn say_verdict(verdict: Verdict) {
+fn word(verdict: Verdict) -> &'static [u8] {
     match verdict {
-        Verdict::Panel => say(b" PANEL"),
-        Verdict::NotKnown => say(b" 0002"),
-        Verdict::Disabled => say(b" 0003"),
-        Verdict::Failed => say(b" 0004"),
-        Verdict::Grant => say(b" GRANT"),
+        Verdict::Panel => b" PANEL",
+        Verdict::NotKnown => b" 0002",
+        Verdict::Disabled => b" 0003",
+        Verdict::Failed => b" 0004",
+        Verdict::Grant => b" GRANT",
     }
 }
 
-fn say_refusal(n: u8) {
+fn say_refusal(e: Refusal) {
     say(b" REFUSED ");
-    io::print_decimal(1, n as u64);
+    io::print_decimal(1, e.number() as u64);
 }
 
-fn say_answer(answer: Answer) {
+fn say_answer(answer: Result<Verdict, Refusal>) {
     match answer {
-        Answer::Given(verdict) => say_verdict(verdict),
-        Answer::Refused(n) => say_refusal(n),
+        Ok(verdict) => say(word(verdict)),
+        Err(e) => say_refusal(e),
     }
 }
 
@@ -53,22 +54,10 @@ fn run_case(case: &[u8]) {
 }
 
 fn run_line(line: &[u8]) {
-    let mut case = [0u8; 1400];
-    let n = show_case::begin_case(line, &mut case);
-    run_case(octets_part::part(&case, 0, n));
+    show_case::with_case::<1400, _>(line, run_case);
     say(b"\n");
 }
 
-fn run(text: &[u8]) {
-    let mut at = 0;
-    while at < text.len() {
-        run_line(show_case::line_at(text, at));
-        at = show_case::after_line(text, at);
-    }
-}
-
 fn main() {
-    let mut input = [0u8; 81920];
-    let n = io::read_full(0, &mut input);
-    run(&input[..n]);
+    show_case::each_input_line::<81920, _>(run_line);
 }

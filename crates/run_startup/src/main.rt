@@ -9,7 +9,6 @@
 // EBCDIC.
 #![tactic(auto)]
 
-use refusal::Written;
 use signon::Verdict;
 
 fn say_number(word: &[u8], n: usize) {
@@ -25,8 +24,8 @@ fn say_bytes(bytes: &[u8]) {
 
 fn respond(fault: bool, verdict: Verdict, system: &[u8], device: &[u8], out: &mut [u8]) {
     match startup_record::response(fault, verdict, system, device, out) {
-        Written::Wrote(n) => say_number(b" wrote ", n),
-        Written::Refused(n) => say_number(b" refused ", n as usize),
+        Ok(n) => say_number(b" wrote ", n),
+        Err(e) => say_number(b" refused ", e.number() as usize),
     }
     say_bytes(out);
 }
@@ -49,10 +48,10 @@ fn verdict_of(b: u8) -> Verdict {
 }
 
 // The system's name begins after the fault, the verdict, the room and its own length; the device's is the rest.
-fn run_case(room: u8, system_length: u8, case: &[u8]) {
-    let n = system_length as usize;
+fn run_case(case: &[u8]) {
+    let n = octets_part::byte_at(case, 3) as usize;
     respond_in(
-        room as usize,
+        octets_part::byte_at(case, 2) as usize,
         octets_part::byte_at(case, 0) == 1,
         verdict_of(octets_part::byte_at(case, 1)),
         octets_part::part(case, 4, n),
@@ -61,22 +60,10 @@ fn run_case(room: u8, system_length: u8, case: &[u8]) {
 }
 
 fn run_line(line: &[u8]) {
-    let mut case = [0u8; 64];
-    let n = show_case::begin_case(line, &mut case);
-    run_case(case[2], case[3], octets_part::part(&case, 0, n));
+    show_case::with_case::<64, _>(line, run_case);
     io::write_all(1, b"\n");
 }
 
-fn run(text: &[u8]) {
-    let mut at = 0;
-    while at < text.len() {
-        run_line(show_case::line_at(text, at));
-        at = show_case::after_line(text, at);
-    }
-}
-
 fn main() {
-    let mut input = [0u8; 8192];
-    let n = io::read_full(0, &mut input);
-    run(&input[..n]);
+    show_case::each_input_line::<8192, _>(run_line);
 }

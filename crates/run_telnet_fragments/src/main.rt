@@ -15,66 +15,35 @@
 #![tactic(auto)]
 
 use show_case::{say_bytes, say_numbers};
-use telnet::PAYLOAD_LIMIT;
-use telnet_fragments::{Closed, Reader, Taken};
-
-fn say(text: &[u8]) {
-    io::write_all(1, text);
-}
-
-fn one_more(n: usize) -> usize {
-    if n < 1000000 {
-        return n + 1;
-    }
-    n
-}
-
-fn sum(a: usize, b: usize) -> usize {
-    if a < 1000000 {
-        if b < 1000000 {
-            return a + b;
-        }
-    }
-    a
-}
+use telnet::{Kind, PAYLOAD_LIMIT};
+use telnet_fragments::{Reader, Taken};
 
 // How many bytes from a place on are not 2E.
 fn others(room: &[u8], at: usize) -> usize {
-    let mut n = 0;
-    let mut i = at;
-    while i < room.len() {
-        if room[i] != 0x2E {
-            n = one_more(n);
-        }
-        i += 1;
-    }
-    n
+    room.iter().skip(at).filter(|b| **b != 0x2E).count()
 }
 
-fn closed_number(closed: Closed) -> usize {
-    match closed {
-        Closed::End => 0,
-        Closed::Number(n) => n as usize,
-    }
+// What closing answers, as a number.
+fn closed(reader: Reader) -> usize {
+    usize::from(refusal::number_or_0(telnet_feed::close(reader).err()))
 }
 
 fn say_fed(fed: Taken, room: &[u8]) {
-    let kind = fed.kind;
-    let event = export::kind_numbers(kind);
+    let event = export::kind_numbers(fed.kind.unwrap_or(Kind::Data));
     say_numbers(&[
-        fed.number as usize,
+        usize::from(refusal::number_or_0(fed.refusal)),
         fed.taken,
         fed.length,
-        event.what as usize,
-        event.code as usize,
-        event.option as usize,
+        usize::from(event.what),
+        usize::from(event.code),
+        usize::from(event.option),
         fed.payload,
-        closed_number(telnet_feed::close(fed.reader)),
+        closed(fed.reader),
     ]);
     say_bytes(octets_part::part(room, 0, fed.length));
     say_bytes(octets_part::part(room, fed.length, fed.payload));
-    say(b" |");
-    say_numbers(&[others(room, sum(fed.length, fed.payload))]);
+    io::write_all(1, b" |");
+    say_numbers(&[others(room, fed.length.saturating_add(fed.payload))]);
 }
 
 fn call(
@@ -103,39 +72,28 @@ fn call_with(reader: Reader, kept: &mut [u8; PAYLOAD_LIMIT], case: &[u8]) -> Rea
 }
 
 fn close(reader: Reader) -> Reader {
-    say_numbers(&[closed_number(telnet_feed::close(reader))]);
+    say_numbers(&[closed(reader)]);
     reader
 }
 
 fn run_case(reader: Reader, kept: &mut [u8; PAYLOAD_LIMIT], case: &[u8]) -> Reader {
     match octets_part::byte_at(case, 0) {
-        0 => return telnet_feed::fresh(),
-        1 => return call_with(reader, kept, case),
-        2 => return close(reader),
-        _ => return telnet_feed::reset(reader),
+        0 => telnet_feed::fresh(),
+        1 => call_with(reader, kept, case),
+        2 => close(reader),
+        _ => telnet_feed::reset(reader),
     }
 }
 
 fn run_line(reader: Reader, kept: &mut [u8; PAYLOAD_LIMIT], line: &[u8]) -> Reader {
-    let mut case = [0u8; 2600];
-    let n = show_case::begin_case(line, &mut case);
-    let next = run_case(reader, kept, octets_part::part(&case, 0, n));
-    say(b"\n");
+    let mut next = reader;
+    show_case::with_case::<2600, _>(line, |case| next = run_case(reader, kept, case));
+    io::write_all(1, b"\n");
     next
 }
 
-fn run(text: &[u8]) {
+fn main() {
     let mut reader = telnet_feed::fresh();
     let mut kept = [0u8; PAYLOAD_LIMIT];
-    let mut at = 0;
-    while at < text.len() {
-        reader = run_line(reader, &mut kept, show_case::line_at(text, at));
-        at = show_case::after_line(text, at);
-    }
-}
-
-fn main() {
-    let mut input = [0u8; 131072];
-    let n = io::read_full(0, &mut input);
-    run(&input[..n]);
+    show_case::each_input_line::<131072, _>(|line| reader = run_line(reader, &mut kept, line));
 }

@@ -5,8 +5,6 @@
 //     p name: count tail    the listing of FF FA 18, `count` bytes 41 (a number of two bytes), and a tail
 #![tactic(auto)]
 
-use refusal::Written;
-
 fn say(text: &[u8]) {
     io::write_all(1, text);
 }
@@ -19,13 +17,8 @@ fn say_name(name: &[u8]) {
 
 fn list(s: &[u8]) {
     let mut out = [0u8; 512];
-    match telnet_listing::list(s, &mut out) {
-        Written::Wrote(n) => {
-            if n <= 512 {
-                say(&out[0..n]);
-            }
-        }
-        Written::Refused(_) => {}
+    if let Ok(n) = telnet_listing::list(s, &mut out) {
+        say(octets_part::part(&out, 0, n));
     }
 }
 
@@ -44,7 +37,7 @@ fn list_payload(count: usize, tail: &[u8]) {
 
 // The number that two bytes say.
 fn number(high: u8, low: u8) -> usize {
-    (high as usize) * 256 + (low as usize)
+    usize::from(u16::from_be_bytes([high, low]))
 }
 
 fn run_case(letter: u8, bytes: &[u8]) {
@@ -69,16 +62,6 @@ fn run_line(line: &[u8]) {
     );
 }
 
-fn run(text: &[u8]) {
-    let mut at = 0;
-    while at < text.len() {
-        run_line(show_case::line_at(text, at));
-        at = show_case::after_line(text, at);
-    }
-}
-
 fn main() {
-    let mut input = [0u8; 4096];
-    let n = io::read_full(0, &mut input);
-    run(&input[..n]);
+    show_case::each_input_line::<4096, _>(run_line);
 }

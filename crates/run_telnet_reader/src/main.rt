@@ -7,7 +7,8 @@
 // A line of output names the case; what follows is the answer with the bytes of the buffer, which are 2E before.
 #![tactic(auto)]
 
-use telnet_reader::Answer;
+use refusal::Refusal;
+use telnet_reader::Found;
 use telnet_records::Record;
 
 fn say(text: &[u8]) {
@@ -41,23 +42,23 @@ fn say_found(length: usize, next: usize) {
     say_number(b", next ", next);
 }
 
-fn say_event(answer: Answer) {
+fn say_refused(e: Refusal) {
+    say_number(b"refused ", e.number() as usize);
+}
+
+fn say_event(answer: Result<Option<Found>, Refusal>) {
     match answer {
-        Answer::End => say(b"end"),
-        Answer::Found {
-            kind: _,
-            length,
-            next,
-        } => say_found(length, next),
-        Answer::Refused(n) => say_number(b"refused ", n as usize),
+        Ok(Some(found)) => say_found(found.length, found.next),
+        Ok(None) => say(b"end"),
+        Err(e) => say_refused(e),
     }
 }
 
-fn say_record(record: Record) {
-    match record {
-        Record::Unfinished => say(b"unfinished"),
-        Record::Complete { length, next } => say_found(length, next),
-        Record::Refused(n) => say_number(b"refused ", n as usize),
+fn say_record(answer: Result<Option<Record>, Refusal>) {
+    match answer {
+        Ok(Some(record)) => say_found(record.length, record.next),
+        Ok(None) => say(b"unfinished"),
+        Err(e) => say_refused(e),
     }
 }
 
@@ -77,18 +78,14 @@ fn read_in(letter: u8, s: &[u8], at: usize, room: usize, out: &mut [u8]) {
     say_bytes(out);
 }
 
-fn wide(b: u8) -> usize {
-    b as usize
-}
-
 fn run_case(letter: u8, bytes: &[u8]) {
     let n = bytes.len();
     if 2 <= n {
         read_in(
             letter,
             &bytes[2..n],
-            wide(bytes[0]),
-            wide(bytes[1]),
+            usize::from(bytes[0]),
+            usize::from(bytes[1]),
             &mut [0x2Eu8; 8],
         );
     }
@@ -105,16 +102,6 @@ fn run_line(line: &[u8]) {
     );
 }
 
-fn run(text: &[u8]) {
-    let mut at = 0;
-    while at < text.len() {
-        run_line(show_case::line_at(text, at));
-        at = show_case::after_line(text, at);
-    }
-}
-
 fn main() {
-    let mut input = [0u8; 4096];
-    let n = io::read_full(0, &mut input);
-    run(&input[..n]);
+    show_case::each_input_line::<4096, _>(run_line);
 }

@@ -6,35 +6,16 @@
 // raw bytes of what is unfinished.
 #![tactic(auto)]
 
-use show_case::say_numbers;
-use telnet::{Kind, PAYLOAD_LIMIT};
-use telnet_fragments::{Closed, Reader};
+use octets_part::{byte_at, part};
+use refusal::Refusal;
+use telnet::PAYLOAD_LIMIT;
+use telnet_fragments::Reader;
 
-fn one_more(n: usize) -> usize {
-    if n < 1000000 {
-        return n + 1;
-    }
-    n
-}
-
-fn sum(a: usize, b: usize) -> usize {
-    if a < 1000000 {
-        if b < 1000000 {
-            return a + b;
-        }
-    }
-    a
-}
-
-fn closed_number(closed: Closed) -> usize {
-    match closed {
-        Closed::End => 0,
-        Closed::Number(n) => n as usize,
-    }
-}
+// The bytes that streams are of.
+const SYMBOLS: [u8; 7] = [0x41, 0xFF, 0xF0, 0xFA, 0xFB, 0xEF, 0x00];
 
 // What streams came to.
-#[derive(Clone, Copy)]
+#[derive(Clone, Copy, Default)]
 struct Tally {
     rest: usize,
     waiting: usize,
@@ -52,63 +33,30 @@ struct Part {
     events: usize,
 }
 
-fn is_event(kind: Kind) -> bool {
-    match kind {
-        Kind::Data => false,
-        Kind::Command(_) => true,
-        Kind::Negotiation(_, _) => true,
-        Kind::Subnegotiation(_) => true,
-    }
-}
-
 // Takes all bytes of a part: at most one call for each.
-fn take_part(part: Part, kept: &mut [u8; PAYLOAD_LIMIT], s: &[u8], room: &mut [u8]) -> Part {
-    let mut reader = part.reader;
-    let mut data = part.data;
-    let mut events = part.events;
-    let mut at = 0;
-    let mut calls = 0;
-    while calls < s.len() {
-        let fed = telnet_feed::feed(reader, kept, octets_part::part(s, at, s.len()), room);
-        let kind = fed.kind;
-        reader = fed.reader;
-        at = sum(at, fed.taken);
-        data = sum(data, fed.length);
-        if is_event(kind) {
-            events = one_more(events);
+fn take_part(begun: Part, kept: &mut [u8; PAYLOAD_LIMIT], s: &[u8], room: &mut [u8]) -> Part {
+    let mut now = begun;
+    let mut at: usize = 0;
+    for _ in 0..s.len() {
+        let fed = telnet_feed::feed(now.reader, kept, part(s, at, s.len()), room);
+        at = at.saturating_add(fed.taken);
+        now.reader = fed.reader;
+        now.data = now.data.saturating_add(fed.length);
+        if fed.kind.is_some() {
+            now.events = now.events.saturating_add(1);
         }
-        calls += 1;
     }
-    Part {
-        reader,
-        data,
-        events,
-    }
+    now
 }
 
-fn wide(b: u8) -> usize {
-    b as usize
-}
-
-fn symbol(digit: usize) -> u8 {
-    match digit {
-        0 => 0x41,
-        1 => 0xFF,
-        2 => 0xF0,
-        3 => 0xFA,
-        4 => 0xFB,
-        5 => 0xEF,
-        _ => 0x00,
-    }
-}
-
+// A stream by its number.
 fn stream_of(i: usize) -> [u8; 5] {
     [
-        symbol(i % 7),
-        symbol(i / 7 % 7),
-        symbol(i / 49 % 7),
-        symbol(i / 343 % 7),
-        symbol(i / 2401 % 7),
+        SYMBOLS[i % 7],
+        SYMBOLS[i / 7 % 7],
+        SYMBOLS[i / 49 % 7],
+        SYMBOLS[i / 343 % 7],
+        SYMBOLS[i / 2401 % 7],
     ]
 }
 
@@ -124,16 +72,14 @@ fn streams_of(length: u8) -> usize {
 }
 
 fn counted(tally: Tally, part: Part) -> Tally {
-    let reader = part.reader;
-    let how = closed_number(telnet_feed::close(reader));
     let mut t = tally;
-    t.data = sum(t.data, part.data);
-    t.events = sum(t.events, part.events);
-    match how {
-        0 => t.rest = one_more(t.rest),
-        1 => t.waiting = one_more(t.waiting),
-        2 => t.undoubled = one_more(t.undoubled),
-        _ => t.bad = one_more(t.bad),
+    t.data = t.data.saturating_add(part.data);
+    t.events = t.events.saturating_add(part.events);
+    match telnet_feed::close(part.reader) {
+        Ok(()) => t.rest = t.rest.saturating_add(1),
+        Err(Refusal::CutShort) => t.waiting = t.waiting.saturating_add(1),
+        Err(Refusal::Undoubled) => t.undoubled = t.undoubled.saturating_add(1),
+        Err(_) => t.bad = t.bad.saturating_add(1),
     }
     t
 }
@@ -146,33 +92,18 @@ fn take_stream(tally: Tally, s: &[u8], cut: usize) -> Tally {
         data: 0,
         events: 0,
     };
-    let first = take_part(begun, &mut kept, octets_part::part(s, 0, cut), &mut room);
-    let both = take_part(
-        first,
-        &mut kept,
-        octets_part::part(s, cut, s.len()),
-        &mut room,
-    );
+    let first = take_part(begun, &mut kept, part(s, 0, cut), &mut room);
+    let both = take_part(first, &mut kept, part(s, cut, s.len()), &mut room);
     counted(tally, both)
 }
 
-fn take_streams(length: u8, cut: usize) {
-    let mut tally = Tally {
-        rest: 0,
-        waiting: 0,
-        undoubled: 0,
-        bad: 0,
-        data: 0,
-        events: 0,
-    };
-    let end = streams_of(length);
-    let mut i = 0;
-    while i < end {
+fn take_streams(length: u8, cut: u8) {
+    let mut tally = Tally::default();
+    for i in 0..streams_of(length) {
         let s = stream_of(i);
-        tally = take_stream(tally, octets_part::part(&s, 0, length as usize), cut);
-        i += 1;
+        tally = take_stream(tally, part(&s, 0, usize::from(length)), usize::from(cut));
     }
-    say_numbers(&[
+    show_case::say_numbers(&[
         tally.rest,
         tally.waiting,
         tally.undoubled,
@@ -183,22 +114,13 @@ fn take_streams(length: u8, cut: usize) {
 }
 
 fn run_line(line: &[u8]) {
-    let mut case = [0u8; 2];
-    show_case::begin_case(line, &mut case);
-    take_streams(case[0], wide(case[1]));
+    show_case::with_case::<2, _>(
+        line,
+        |case| take_streams(byte_at(case, 0), byte_at(case, 1)),
+    );
     io::write_all(1, b"\n");
 }
 
-fn run(text: &[u8]) {
-    let mut at = 0;
-    while at < text.len() {
-        run_line(show_case::line_at(text, at));
-        at = show_case::after_line(text, at);
-    }
-}
-
 fn main() {
-    let mut input = [0u8; 4096];
-    let n = io::read_full(0, &mut input);
-    run(&input[..n]);
+    show_case::each_input_line::<4096, _>(run_line);
 }

@@ -9,7 +9,7 @@
 // A line of output names the case; what follows is the answer with the bytes of the buffer, which are 2E before.
 #![tactic(auto)]
 
-use refusal::Written;
+use refusal::Refusal;
 use telnet::{Kind, Verb};
 
 fn say(text: &[u8]) {
@@ -47,10 +47,10 @@ fn kind_of(kind: u8, option: u8) -> Kind {
     }
 }
 
-fn say_answer(answer: Written) {
+fn say_answer(answer: Result<usize, Refusal>) {
     match answer {
-        Written::Wrote(n) => say_number(b"wrote ", n),
-        Written::Refused(n) => say_number(b"refused ", n as usize),
+        Ok(n) => say_number(b"wrote ", n),
+        Err(e) => say_number(b"refused ", e.number() as usize),
     }
 }
 
@@ -66,17 +66,13 @@ fn write_in(kind: Kind, payload: &[u8], room: usize, out: &mut [u8]) {
     say_bytes(out);
 }
 
-fn wide(b: u8) -> usize {
-    b as usize
-}
-
 fn run_case(letter: u8, bytes: &[u8]) {
     let n = bytes.len();
     if n < 3 {
         return;
     }
     let kind = kind_of(bytes[0], bytes[1]);
-    let room = wide(bytes[2]);
+    let room = usize::from(bytes[2]);
     if letter == b'w' {
         write_in(kind, &bytes[3..n], room, &mut [0x2Eu8; 12]);
         return;
@@ -95,16 +91,6 @@ fn run_line(line: &[u8]) {
     );
 }
 
-fn run(text: &[u8]) {
-    let mut at = 0;
-    while at < text.len() {
-        run_line(show_case::line_at(text, at));
-        at = show_case::after_line(text, at);
-    }
-}
-
 fn main() {
-    let mut input = [0u8; 4096];
-    let n = io::read_full(0, &mut input);
-    run(&input[..n]);
+    show_case::each_input_line::<4096, _>(run_line);
 }

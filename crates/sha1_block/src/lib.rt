@@ -54,7 +54,7 @@ fn constant(stage: usize) -> u32
 fn sum(x: u32, y: u32) -> u32
     ensures { result ≡ x ⊞ y }
 {
-    std::num::wrapping_add_u32(x, y)
+    x.wrapping_add(y)
 }
 
 // A round of a stage with its word.
@@ -72,8 +72,8 @@ fn step(s: Words, stage: usize, w: u32) -> Words
 }
 
 // A word of a block.
-fn taken(block: &[u8], t: usize) -> u32
-    requires { (t < 16) × (length block.now ≡ 64) }
+fn taken(block: &[u8; 64], t: usize) -> u32
+    requires { t < 16 }
     ensures { result ≡ number (take 4 (drop (4 * t) block.now)) }
 {
     let at = 4 * t;
@@ -82,15 +82,15 @@ fn taken(block: &[u8], t: usize) -> u32
 
 // The word that is made of those before it.
 fn made(w: &[u32; 80], t: usize) -> u32
-    requires { (16 ≤ t) × (t < 80) × (length w.now ≡ 80) }
+    requires { (16 ≤ t) × (t < 80) }
     ensures { result ≡ next (take t w.now) }
 {
     words::rotate_left_32(w[t - 3] ^ w[t - 8] ^ w[t - 14] ^ w[t - 16], 1)
 }
 
 // The word of a round: the block's, or made.
-fn word(block: &[u8], w: &[u32; 80], t: usize) -> u32
-    requires { (t < 80) × (length block.now ≡ 64) × (length w.now ≡ 80) }
+fn word(block: &[u8; 64], w: &[u32; 80], t: usize) -> u32
+    requires { t < 80 }
     ensures { planned block.now (t + 1) (take t w.now ++ result ∷ []) ≡ planned block.now t (take t w.now) }
 {
     if t < 16 {
@@ -100,25 +100,22 @@ fn word(block: &[u8], w: &[u32; 80], t: usize) -> u32
 }
 
 // The twenty rounds of a stage.
-fn twenty(s: Words, block: &[u8], w: &mut [u32; 80], stage: usize) -> Words
-    requires { (stage < 4) × (length block.now ≡ 64) × (length w.old ≡ 80) }
+fn twenty(s: Words, block: &[u8; 64], w: &mut [u32; 80], stage: usize) -> Words
+    requires { stage < 4 }
     ensures { Carried block.now (20 * stage) w.old (five s) (20 * stage + 20) w.new (five result) }
 {
     let mut s = s;
-    let mut t = 20 * stage;
-    let end = t + 20;
-    while t < end {
+    let first = 20 * stage;
+    for t in first..first + 20 {
         let x = word(block, w, t);
         w[t] = x;
         s = step(s, stage, x);
-        t += 1;
     }
     s
 }
 
 // The eighty rounds over a block.
-fn eighty(h: Words, block: &[u8]) -> Words
-    requires { length block.now ≡ 64 }
+fn eighty(h: Words, block: &[u8; 64]) -> Words
     ensures { five result ≡ rounds 0 (schedule block.now) (five h) }
 {
     let mut w = [0u32; 80];
@@ -129,8 +126,7 @@ fn eighty(h: Words, block: &[u8]) -> Words
 }
 
 // The hash value after a block.
-fn compress(h: Words, block: &[u8]) -> Words
-    requires { length block.now ≡ 64 }
+fn compress(h: Words, block: &[u8; 64]) -> Words
     ensures { five result ≡ compressed (five h) block.now }
 {
     let s = eighty(h, block);
@@ -148,11 +144,8 @@ pub fn absorb(h: Words, blocks: &[u8]) -> Words
     ensures { five result ≡ hashed (five h) (cut 64 blocks.now) }
 {
     let mut h = h;
-    let mut at = 0;
-    while 64 <= blocks.len() - at {
-        let end = at + 64;
-        h = compress(h, &blocks[at..end]);
-        at = end;
+    for block in blocks.as_chunks::<64>().0 {
+        h = compress(h, block);
     }
     h
 }

@@ -1,5 +1,5 @@
 -- Bytes as hexadecimal digits in ASCII, two a byte, the higher first.
-use Rattle.std.specs.Prelude.{ℕ, ◌+◌, ◌*◌, ◌/◌, ◌%◌, true, false, List, [], ◌∷◌, ◌++◌, ltb, if◌then◌else◌}
+use Rattle.std.specs.Prelude.{ℕ, ◌+◌, ◌*◌, ◌/◌, ◌%◌, List, [], ◌∷◌, ◌++◌, ltb, if◌then◌else◌}
 
 -- the value of a digit, of either case; some value for every other byte
 unfoldable pub digit_value : ℕ → ℕ
@@ -23,12 +23,15 @@ hex_digit d = if ltb d 10 then 48 + d else 87 + d
 abbrev pub hex_pair : ℕ → List ℕ
 hex_pair b = hex_digit (b / 16) ∷ hex_digit (b % 16) ∷ []
 
+-- the digits of each byte, after the same words each
+unfoldable pub digits_after : (words bytes : List ℕ) → List ℕ
+digits_after words [] = []
+digits_after words (b ∷ bs) = (words ++ hex_pair b) ++ digits_after words bs
+
 -- the digits of each byte
-unfoldable pub hex_text : List ℕ → List ℕ
-hex_text [] = []
-hex_text (b ∷ bs) = hex_pair b ++ hex_text bs
+abbrev pub hex_text : List ℕ → List ℕ
+hex_text bytes = digits_after [] bytes
 
 -- the same with a blank before each byte
-unfoldable pub spaced_text : List ℕ → List ℕ
-spaced_text [] = []
-spaced_text (b ∷ bs) = (32 ∷ hex_pair b) ++ spaced_text bs
+abbrev pub spaced_text : List ℕ → List ℕ
+spaced_text bytes = digits_after (32 ∷ []) bytes

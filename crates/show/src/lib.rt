@@ -5,7 +5,7 @@
 ghost use Rattle.std.specs.Prelude.{◌≡◌, ◌+◌, ◌≤◌, ◌<◌, length};
 ghost use Rattle.octets.specs.Decimal.{decimal};
 ghost use Rattle.octets.specs.Lent.{outcome, overwrite};
-ghost use Rattle.show.specs.Hex.{digit_value, byte_of, hex_digit, hex_pair, hex_text, spaced_text};
+ghost use Rattle.show.specs.Hex.{digit_value, byte_of, hex_digit, hex_pair, digits_after, hex_text, spaced_text};
 ghost use Rattle.show.specs.Promise.{hex_into, placed};
 
 // The value of a hexadecimal digit, of either case.
@@ -34,10 +34,8 @@ pub fn read_hex(text: &[u8], out: &mut [u8]) -> usize
     if out.len() < n {
         return 0;
     }
-    let mut i = 0;
-    while i < n {
+    for i in 0..n {
         out[i] = byte_of(text[2 * i], text[2 * i + 1]);
-        i += 1;
     }
     n
 }
@@ -62,45 +60,39 @@ fn put_pair(b: u8, out: &mut [u8], at: usize)
     out[at + 1] = hex_digit(b % 16);
 }
 
+// Puts bytes as hexadecimal digits, each byte's after the same words, at a place of the buffer; the answer is the place
+// after them.
+fn put_digits(bytes: &[u8], words: &[u8], out: &mut [u8], at: usize) -> usize
+    ensures { outcome result out.new ≡ placed (digits_after words.now bytes.now) out.old at }
+{
+    let width = words.len() + 2;
+    if out.len() / width < bytes.len() {
+        return at;
+    }
+    if octets::no_room(width * bytes.len(), at, out.len()) {
+        return at;
+    }
+    let mut end = at;
+    for b in bytes {
+        octets::put(words, out, end);
+        put_pair(*b, out, end + words.len());
+        end += width;
+    }
+    end
+}
+
 // Puts bytes as hexadecimal digits, two each, lower case, at a place of the buffer; the answer is the place after them.
 pub fn put_hex(bytes: &[u8], out: &mut [u8], at: usize) -> usize
     ensures { outcome result out.new ≡ placed (hex_text bytes.now) out.old at }
 {
-    if out.len() / 2 < bytes.len() {
-        return at;
-    }
-    if octets::no_room(2 * bytes.len(), at, out.len()) {
-        return at;
-    }
-    let mut end = at;
-    let mut i = 0;
-    while i < bytes.len() {
-        put_pair(bytes[i], out, end);
-        end += 2;
-        i += 1;
-    }
-    end
+    put_digits(bytes, b"", out, at)
 }
 
 // The same with a blank before each byte.
 pub fn put_hex_spaced(bytes: &[u8], out: &mut [u8], at: usize) -> usize
     ensures { outcome result out.new ≡ placed (spaced_text bytes.now) out.old at }
 {
-    if out.len() / 3 < bytes.len() {
-        return at;
-    }
-    if octets::no_room(3 * bytes.len(), at, out.len()) {
-        return at;
-    }
-    let mut end = at;
-    let mut i = 0;
-    while i < bytes.len() {
-        out[end] = b' ';
-        put_pair(bytes[i], out, end + 1);
-        end += 3;
-        i += 1;
-    }
-    end
+    put_digits(bytes, b" ", out, at)
 }
 
 // Puts words at a place of the buffer; the answer is the place after them.

@@ -2,10 +2,12 @@
 // bytes in hexadecimal digits. What is said goes to standard output, of which no contract speaks.
 #![tactic(auto)]
 
-ghost use Rattle.std.specs.Prelude.{◌≡◌, ◌-◌, ◌≤◌, length};
+ghost use Rattle.std.specs.Prelude.{◌≡◌, List, [], ◌∷◌, ℕ, ◌-◌, ◌^◌, ◌≤◌, ◌<◌, length};
 ghost use Rattle.octets.specs.Lent.{outcome};
 ghost use Rattle.show.specs.Promise.{hex_into};
-ghost use Rattle.show_case.specs.Case.{line_at, after_line, title_in, digits_in, is_title};
+ghost use Rattle.show_case.specs.Case.{line_at, after_line, lines, title_in, digits_in, is_title, case_in};
+ghost use Rattle.std.specs.Fn.{CalledAt, FnOnceReturnsAt};
+ghost use Rattle.std.specs.List.{FoldsTo};
 
 // The line at a place of a text, without its end.
 pub fn line_at(text: &[u8], at: usize) -> &[u8]
@@ -25,6 +27,30 @@ pub fn after_line(text: &[u8], at: usize) -> usize
         return end + 1;
     }
     end
+}
+
+// Calls a function at each line of a text, in order.
+pub fn each_line<F: FnMut(&[u8])>(text: &[u8], mut f: F)
+    requires { F.IsAlwaysCallable f }
+    ensures { (last : F) × FoldsTo (λ before line after. CalledAt F.FnMut before line tt after) f (lines text.now) last }
+{
+    let mut at = 0;
+    while at < text.len() {
+        f(line_at(text, at));
+        at = after_line(text, at);
+    }
+}
+
+// Reads standard input, of which the first `N` bytes count, and calls a function at each of its lines, in order.
+pub fn each_input_line<const N: usize, F: FnMut(&[u8])>(f: F)
+    requires small { N < 2 ^ 63 }
+    requires called { F.IsAlwaysCallable f }
+    ensures { (text : List ℕ) × (length text ≤ N) × (last : F)
+        × FoldsTo (λ before line after. CalledAt F.FnMut before line tt after) f (lines text) last }
+{
+    let mut input = [0u8; N];
+    let n = io::read_full(0, &mut input);
+    each_line(&input[..n], f);
 }
 
 fn say(words: &[u8]) {
@@ -48,6 +74,18 @@ pub fn digits(line: &[u8]) -> &[u8]
     octets_part::part(rest, 1, rest.len())
 }
 
+// Says the title of a line, with its colon, and calls a function with the bytes of its digits, or with none where they
+// are more than `N`.
+pub fn with_case<const N: usize, F: FnOnce(&[u8])>(line: &[u8], f: F)
+    requires small { N < 2 ^ 63 }
+    requires called { F.IsAlwaysCallable f }
+    ensures { FnOnceReturnsAt F.FnOnce f (case_in N line.now) tt }
+{
+    let mut case = [0u8; N];
+    let n = begin_case(line, &mut case);
+    f(&case[..n]);
+}
+
 fn say_title(line: &[u8]) {
     say(title(line));
     say(b":");
@@ -69,6 +107,18 @@ pub fn is_title(line: &[u8]) -> bool
     octets_find::find_byte(line, 0, b':') == line.len()
 }
 
+// Calls a function at each item of a list, in order; the answer is how many there are.
+fn say_each<T: Copy, F: FnMut(T)>(items: &[T], mut say: F) -> usize
+    requires { F.IsAlwaysCallable say }
+    ensures said { (last : F) × FoldsTo (λ before item after. F.step before item tt after) say items.now last }
+    ensures counted { result ≡ length items.now }
+{
+    for item in items {
+        say(*item);
+    }
+    items.len()
+}
+
 fn say_number(n: usize) {
     say(b" ");
     io::print_decimal(1, n as u64);
@@ -78,12 +128,7 @@ fn say_number(n: usize) {
 pub fn say_numbers(numbers: &[usize]) -> usize
     ensures { result ≡ length numbers.now }
 {
-    let mut i = 0;
-    while i < numbers.len() {
-        say_number(numbers[i]);
-        i += 1;
-    }
-    i
+    say_each(numbers, say_number)
 }
 
 fn say_value(b: u8) {
@@ -94,12 +139,7 @@ fn say_value(b: u8) {
 pub fn say_values(bytes: &[u8]) -> usize
     ensures { result ≡ length bytes.now }
 {
-    let mut n = 0;
-    while n < bytes.len() {
-        say_value(bytes[n]);
-        n += 1;
-    }
-    n
+    say_each(bytes, say_value)
 }
 
 fn say_byte(b: u8) {
@@ -112,10 +152,5 @@ pub fn say_bytes(bytes: &[u8]) -> usize
     ensures { result ≡ length bytes.now }
 {
     say(b";");
-    let mut said = 0;
-    while said < bytes.len() {
-        say_byte(bytes[said]);
-        said += 1;
-    }
-    said
+    say_each(bytes, say_byte)
 }

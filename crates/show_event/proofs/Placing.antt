@@ -1,8 +1,9 @@
 -- An event written from a place of a line on. Assumes nothing.
+use Rattle.std.specs.Prelude.{Result, Ok, Err}
 use mathlib.Core.Path.{◌≡◌, refl, sym, ap, subst, ◌∙◌}
 use mathlib.Core.Bool.{not}
 use mathlib.Core.List.{List, [], ◌∷◌, ◌++◌, append-nil}
-use Prim.Native.Nat.{ℕ, ◌+◌, ◌-◌, ◌≤◌, ◌<◌}
+use Prim.Native.Nat.{ℕ, ◌-◌, ◌≤◌, ◌<◌}
 use native.Mathlib.Omega.{arith}
 use lib.ListN.{length, take, drop, length-drop}
 use lib.Seq.{drop-length}
@@ -12,8 +13,7 @@ use borrow.Rule.Slice.PartMut.{put_mid, Post-is}
 use Rattle.octets.specs.Lent.{Outcome, outcome}
 use Rattle.octets.proofs.Choice.{choice}
 use Rattle.octets.proofs.Promise.{front-either}
-use Rattle.refusal.specs.declared.Written.{Written}
-use Rattle.refusal.specs.declared.Written.TheVariants.{Wrote, Refused}
+use Rattle.refusal.specs.declared.Refusal.{Refusal}
 use Rattle.telnet.specs.Event.{Event}
 use Rattle.telnet.specs.Write.{written, writable}
 use Rattle.telnet_writer.specs.Promise.{write_of}
@@ -28,7 +28,7 @@ unfolding sent_at
 within e line at h = rw (le-ltb (length line) at h) refl
 
 -- the part from the place to the end, as the writer leaves it, put back
-pub put_back : (e : Event) (line part : List ℕ) (at : ℕ) (answer r : Written)
+pub put_back : (e : Event) (line part : List ℕ) (at : ℕ) (answer r : Result ℕ Refusal)
     → at ≤ length line → outcome answer part ≡ write_of e (take (length line - at) (drop at line)) → answer ≡ r
     → outcome (place_after at r) (put_mid at (length line - at) line part) ≡ sent_at e line at
 put_back e line part at answer r h w told =
@@ -38,11 +38,11 @@ put_back e line part at answer r h w told =
     ∙ within e line at h
 
 -- what is written keeps within what is lent
-abbrev pub written_length : Written → ℕ
-written_length (Wrote n) = n
-written_length (Refused number) = 0
+abbrev pub written_length : Result ℕ Refusal → ℕ
+written_length (Ok n) = n
+written_length (Err why) = 0
 
-abbrev Within : List ℕ → Outcome Written → Type 0
+abbrev Within : List ℕ → Outcome (Result ℕ Refusal) → Type 0
 Within out o = written_length o.answer ≤ length out
 
 write-within : (e : Event) (out : List ℕ) → Within out (write_of e out)
@@ -51,7 +51,7 @@ write-within e out =
     choice (Within out) (not (writable e)) (λ _. omega arith)
     (λ _. front-either _ _ (written e) out (Within out) (λ _. omega arith) (λ room. room))
 
-pub wrote-within : (e : Event) (line part : List ℕ) (at : ℕ) (answer r : Written)
+pub wrote-within : (e : Event) (line part : List ℕ) (at : ℕ) (answer r : Result ℕ Refusal)
     → outcome answer part ≡ write_of e (take (length line - at) (drop at line)) → answer ≡ r → written_length r ≤ length line - at
 wrote-within e line part at answer r w told =
     subst (λ (n : ℕ). written_length r ≤ n) (length-drop at line)

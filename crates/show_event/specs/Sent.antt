@@ -1,26 +1,24 @@
 -- Events at places of a line: what is read there and what is written there, with the place after it.
-use Rattle.std.specs.Prelude.{List, [], ◌∷◌, ◌++◌, ℕ, ◌+◌, ltb, length, take, drop, if◌then◌else◌}
+use Rattle.std.specs.Prelude.{List, [], ◌∷◌, ◌++◌, ℕ, ◌+◌, ltb, length, take, drop, if◌then◌else◌, None, Some, Result, Ok, Err}
 use Rattle.octets.specs.Lent.{Outcome, outcome}
-use Rattle.refusal.specs.declared.Written.{Written}
-use Rattle.refusal.specs.declared.Written.TheVariants.{Wrote, Refused}
+use Rattle.refusal.specs.declared.Refusal.{Refusal}
 use Rattle.telnet.specs.Event.{Event, run, command, eor}
-use Rattle.telnet_reader.specs.declared.Answer.{Answer}
-use Rattle.telnet_reader.specs.declared.Answer.TheVariants.{End, Found, Refused as NotRead}
+use Rattle.telnet_reader.specs.Promise.{Answer}
 use Rattle.telnet_writer.specs.Promise.{write_of}
 
 -- the place after what is at a place
 abbrev pub next_place : ℕ → Answer → ℕ
-next_place at End = at
-next_place at (Found kind length next) = next
-next_place at (NotRead number) = at
+next_place at (Ok None) = at
+next_place at (Ok (Some found)) = found.next
+next_place at (Err why) = at
 
 -- the place after what was written
-abbrev pub place_after : ℕ → Written → ℕ
-place_after at (Wrote n) = at + n
-place_after at (Refused number) = at
+abbrev pub place_after : ℕ → Result ℕ Refusal → ℕ
+place_after at (Ok n) = at + n
+place_after at (Err why) = at
 
 -- what the writer leaves, after what comes before the place
-abbrev pub after_place : List ℕ → ℕ → Outcome Written → Outcome ℕ
+abbrev pub after_place : List ℕ → ℕ → Outcome (Result ℕ Refusal) → Outcome ℕ
 after_place line at o = outcome (place_after at o.answer) (take at line ++ o.lent)
 
 -- nothing is written at a place after the end

@@ -8,9 +8,9 @@ ghost use Rattle.telnet.specs.Event.{event};
 ghost use Rattle.telnet_reader.specs.Promise.{look_at};
 ghost use Rattle.show_event.specs.Sent.{next_place, sent_at, sent_all, record_events};
 
-use refusal::Written;
+use refusal::Refusal;
 use telnet::Kind;
-use telnet_reader::Answer;
+use telnet_reader::Found;
 
 // The two ends of a session.
 #[derive(Clone, Copy)]
@@ -54,37 +54,20 @@ fn say_purpose(kind: Kind) {
 }
 
 // The listing's line for what is at a place, without the end of the line.
-fn say_line(at: usize, answer: Answer) {
-    let mut text = [0u8; 67];
-    telnet_line::line(at, answer, &mut text);
+fn say_line(at: usize, answer: Result<Option<Found>, Refusal>) {
+    let text = telnet_line::line_text(at, answer).bytes;
     let end = octets_find::find_byte(&text, 0, b'\n');
     say(octets_part::part(&text, 0, end));
 }
 
-fn say_meaning(answer: Answer) {
-    match answer {
-        Answer::Found {
-            kind,
-            length: _,
-            next: _,
-        } => say_purpose(kind),
-        Answer::End => {}
-        Answer::Refused(_) => {}
-    }
-}
-
 // The place after what is at a place.
-fn after(at: usize, answer: Answer) -> usize
+fn after(at: usize, answer: Result<Option<Found>, Refusal>) -> usize
     ensures { result ≡ next_place at answer }
 {
     match answer {
-        Answer::Found {
-            kind: _,
-            length: _,
-            next,
-        } => next,
-        Answer::End => at,
-        Answer::Refused(_) => at,
+        Ok(Some(found)) => found.next,
+        Ok(None) => at,
+        Err(_) => at,
     }
 }
 
@@ -95,7 +78,9 @@ pub fn say_event(sender: Sender, line: &[u8], at: usize) -> usize
     let answer = telnet_reader::look(line, at);
     say_sender(sender);
     say_line(at, answer);
-    say_meaning(answer);
+    if let Ok(Some(found)) = answer {
+        say_purpose(found.kind);
+    }
     after(at, answer)
 }
 
@@ -109,8 +94,8 @@ fn put_event(kind: Kind, payload: &[u8], line: &mut [u8], at: usize) -> usize
         return at;
     }
     match telnet_writer::write(kind, payload, &mut line[at..n]) {
-        Written::Wrote(k) => return at + k,
-        Written::Refused(_) => return at,
+        Ok(k) => return at + k,
+        Err(_) => return at,
     }
 }
 
@@ -135,10 +120,9 @@ pub fn send_record(sender: Sender, bytes: &[u8], line: &mut [u8], at: usize) -> 
 pub fn say_commands(sender: Sender, line: &[u8]) -> usize
     ensures { result ≡ length line.now / 3 }
 {
-    let mut i = 0;
-    while i < line.len() / 3 {
+    let count = line.len() / 3;
+    for i in 0..count {
         say_event(sender, line, 3 * i);
-        i += 1;
     }
-    i
+    count
 }

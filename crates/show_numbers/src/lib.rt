@@ -38,10 +38,8 @@ pub fn put_numbers(bytes: &[u8], numbers: &mut [usize]) -> usize
     if numbers.len() < n {
         return 0;
     }
-    let mut i = 0;
-    while i < n {
+    for i in 0..n {
         numbers[i] = number_at(bytes, 2 * i);
-        i += 1;
     }
     n
 }

@@ -1,6 +1,6 @@
 -- The reason that is given is the first that holds, and its verdict is the one that is given (`specs/ReasonTheorems.antt`).
 -- Assumes nothing.
-use Rattle.std.specs.Prelude.{if◌then◌else◌}
+use Rattle.std.specs.Prelude.{if◌then◌else◌, Result, Ok, Err}
 use mathlib.Core.Path.{◌≡◌, refl, sym, ap, subst, ◌∙◌}
 use mathlib.Core.Bool.{Bool, true, false, not, ◌&&◌, ◌||◌}
 use mathlib.Core.List.{List, [], ◌∷◌, ◌++◌, map}
@@ -22,15 +22,13 @@ use Rattle.profile.specs.Lookup.{ProfileLookup, no_profile, one_profile}
 use Rattle.password_sha.specs.Sha.{is_password}
 use Rattle.password_check.specs.Gives.{des_length, seed_length, gives_clear, gives_des, gives_sha}
 use Rattle.password_check.proofs.Own.{only-its-lengths}
+use Rattle.refusal.specs.declared.Refusal.{Refusal}
 use Rattle.signon.specs.declared.Verdict.{Verdict}
 use Rattle.signon.specs.declared.Verdict.TheVariants.{Failed, Grant}
-use Rattle.signon.specs.declared.Answer.TheVariants.{Given}
 use Rattle.signon.specs.declared.Reason.{Reason}
 use Rattle.signon.specs.declared.Reason.TheVariants.{PanelAskedFor, NoUser, BadName, NotInTheTable, Disabled, SeedVariableMissing}
 use Rattle.signon.specs.declared.Reason.TheVariants.{SubstituteMissing, SeedLength, SubstituteLength, DesNotAllowed}
 use Rattle.signon.specs.declared.Reason.TheVariants.{ClearPasswordMalformed, TokenDiffers, Granted}
-use Rattle.signon.specs.declared.Explained.{Explained}
-use Rattle.signon.specs.declared.Explained.TheVariants.{Because, Refused}
 use Rattle.signon.specs.Attempt.{Attempt, attempt, is_present, is_clear, GrantRule, grant_rules, one_holds, is_clear_password, is_des_substitute, is_sha_substitute}
 use Rattle.signon.specs.Verdict.{◌gives◌, first_of, grant_conditions, profile_conditions, conditions, verdict_of, answer_by, answer_of}
 use Rattle.signon.specs.Reason.{verdict_for, Cause, ◌because◌, first_cause, bad_seed_length, bad_substitute_length, des_not_allowed, clear_password_malformed}
@@ -257,44 +255,44 @@ answered : (seed : List ℕ) (t : TableReading) (q : Reading) → answer_by seed
 unfolding answer_by explain_by
 answered seed (table_refused n) q = refl
 answered seed (profiles ps) (not_read n) = refl
-answered seed (profiles ps) (says first vs) = ap Given (verdict-of-reason (attempt seed ps vs))
+answered seed (profiles ps) (says first vs) = ap Ok (verdict-of-reason (attempt seed ps vs))
 
 pub verdict-of-its-reason : VerdictOfItsReason
 unfolding answer_of explain_of
 verdict-of-its-reason seed table payload =
     choice₂ (λ a x. a ≡ answer_for x) (not (eqb (length seed) seed_length)) (λ _. refl) (λ _. answered seed (table_of table) (reading_of payload))
 
-because-same : {r q : Reason} → Because r ≡ Because q → r ≡ q
+because-same : {r q : Reason} → ◌≡◌ {A = Result Reason Refusal} (Ok r) (Ok q) → r ≡ q
 because-same e = cc
 
 pub reason-is-first : ReasonIsFirst
 unfolding explain_of explain_by reason_of
 reason-is-first seed table payload ps vs r q =
-    let given : explain_of seed table payload ≡ Because (reason_of (attempt seed ps vs)) =
+    let given : explain_of seed table payload ≡ Ok (reason_of (attempt seed ps vs)) =
     rw (eq-eqb (length seed) seed_length r.seed_of_eight, r.table_read, r.payload_read) in
     let cs = causes (attempt seed ps vs) in (
       λ e. subst (IsFirst cs) (because-same (sym given ∙ e)) (is-first cs TokenDiffers (some (attempt seed ps vs))),
-      λ f. given ∙ ap Because (first-is cs q TokenDiffers f),
+      λ f. given ∙ ap Ok (first-is cs q TokenDiffers f),
     )
 
 -- no other reason belongs to GRANT
-only-granted : (x : Explained) → answer_for x ≡ Given Grant → x ≡ Because Granted
-only-granted (Because PanelAskedFor) e = let z : ◌≡◌ {A = ℕ} 0 1 = cc in absurd (omega arith)
-only-granted (Because NoUser) e = let z : ◌≡◌ {A = ℕ} 0 1 = cc in absurd (omega arith)
-only-granted (Because BadName) e = let z : ◌≡◌ {A = ℕ} 0 1 = cc in absurd (omega arith)
-only-granted (Because NotInTheTable) e = let z : ◌≡◌ {A = ℕ} 0 1 = cc in absurd (omega arith)
-only-granted (Because Disabled) e = let z : ◌≡◌ {A = ℕ} 0 1 = cc in absurd (omega arith)
-only-granted (Because SeedVariableMissing) e = let z : ◌≡◌ {A = ℕ} 0 1 = cc in absurd (omega arith)
-only-granted (Because SubstituteMissing) e = let z : ◌≡◌ {A = ℕ} 0 1 = cc in absurd (omega arith)
-only-granted (Because SeedLength) e = let z : ◌≡◌ {A = ℕ} 0 1 = cc in absurd (omega arith)
-only-granted (Because SubstituteLength) e = let z : ◌≡◌ {A = ℕ} 0 1 = cc in absurd (omega arith)
-only-granted (Because DesNotAllowed) e = let z : ◌≡◌ {A = ℕ} 0 1 = cc in absurd (omega arith)
-only-granted (Because ClearPasswordMalformed) e = let z : ◌≡◌ {A = ℕ} 0 1 = cc in absurd (omega arith)
-only-granted (Because TokenDiffers) e = let z : ◌≡◌ {A = ℕ} 0 1 = cc in absurd (omega arith)
-only-granted (Because Granted) e = refl
-only-granted (Refused n) e = let z : ◌≡◌ {A = ℕ} 0 1 = cc in absurd (omega arith)
+only-granted : (x : Result Reason Refusal) → answer_for x ≡ Ok Grant → x ≡ Ok Granted
+only-granted (Ok PanelAskedFor) e = let z : ◌≡◌ {A = ℕ} 0 1 = cc in absurd (omega arith)
+only-granted (Ok NoUser) e = let z : ◌≡◌ {A = ℕ} 0 1 = cc in absurd (omega arith)
+only-granted (Ok BadName) e = let z : ◌≡◌ {A = ℕ} 0 1 = cc in absurd (omega arith)
+only-granted (Ok NotInTheTable) e = let z : ◌≡◌ {A = ℕ} 0 1 = cc in absurd (omega arith)
+only-granted (Ok Disabled) e = let z : ◌≡◌ {A = ℕ} 0 1 = cc in absurd (omega arith)
+only-granted (Ok SeedVariableMissing) e = let z : ◌≡◌ {A = ℕ} 0 1 = cc in absurd (omega arith)
+only-granted (Ok SubstituteMissing) e = let z : ◌≡◌ {A = ℕ} 0 1 = cc in absurd (omega arith)
+only-granted (Ok SeedLength) e = let z : ◌≡◌ {A = ℕ} 0 1 = cc in absurd (omega arith)
+only-granted (Ok SubstituteLength) e = let z : ◌≡◌ {A = ℕ} 0 1 = cc in absurd (omega arith)
+only-granted (Ok DesNotAllowed) e = let z : ◌≡◌ {A = ℕ} 0 1 = cc in absurd (omega arith)
+only-granted (Ok ClearPasswordMalformed) e = let z : ◌≡◌ {A = ℕ} 0 1 = cc in absurd (omega arith)
+only-granted (Ok TokenDiffers) e = let z : ◌≡◌ {A = ℕ} 0 1 = cc in absurd (omega arith)
+only-granted (Ok Granted) e = refl
+only-granted (Err n) e = let z : ◌≡◌ {A = ℕ} 0 1 = cc in absurd (omega arith)
 
-grant-exactly : (seed table payload : List ℕ) → (explain_of seed table payload ≡ Because Granted) ↔ (answer_of seed table payload ≡ Given Grant)
+grant-exactly : (seed table payload : List ℕ) → (explain_of seed table payload ≡ Ok Granted) ↔ (answer_of seed table payload ≡ Ok Grant)
 grant-exactly seed table payload =
     let same = verdict-of-its-reason seed table payload in
     (λ e. same ∙ ap answer_for e, λ e. only-granted (explain_of seed table payload) (sym same ∙ e))

@@ -1,5 +1,5 @@
 -- A verdict is given exactly where its sentence holds: the theorems of `specs/Theorems.antt`. Assumes nothing.
-use Rattle.std.specs.Prelude.{if◌then◌else◌}
+use Rattle.std.specs.Prelude.{if◌then◌else◌, Result, Ok, Err}
 use mathlib.Core.Path.{◌≡◌, refl, sym, ap, subst, ◌∙◌}
 use mathlib.Core.Bool.{Bool, true, false, not}
 use mathlib.Core.List.{List, []}
@@ -19,10 +19,9 @@ use Rattle.profile.specs.Table.{TableReading, profiles, table_refused, table_of,
 use Rattle.profile.specs.Theorems.{Ascending}
 use Rattle.profile.proofs.Backs.{tables-written-back}
 use Rattle.password_check.specs.Gives.{seed_length}
+use Rattle.refusal.specs.declared.Refusal.{Refusal}
 use Rattle.signon.specs.declared.Verdict.{Verdict}
 use Rattle.signon.specs.declared.Verdict.TheVariants.{Panel, NotKnown, Disabled, Failed, Grant}
-use Rattle.signon.specs.declared.Answer.{Answer}
-use Rattle.signon.specs.declared.Answer.TheVariants.{Given, Refused}
 use Rattle.signon.specs.Attempt.{IBMRSEED, IBMSUBSPW, attempt}
 use Rattle.signon.specs.Verdict.{verdict_of, answer_by, answer_of}
 use Rattle.signon.specs.Theorems.{OneTold, NamedWith, Sentence, Session, Readable, InTableAndEnabled}
@@ -30,10 +29,10 @@ use Rattle.signon.specs.Theorems.{VerdictIsItsSentence, NoVerdictIfRefused, Only
 use Rattle.signon.proofs.Lookups.{not-both}
 use Rattle.signon.proofs.Sentences.{one-profile, sound}
 
-refused-given : {A : Type 0} {n : ℕ} {v : Verdict} → Refused n ≡ Given v → A
+refused-given : {A : Type 0} {n : Refusal} {v : Verdict} → ◌≡◌ {A = Result Verdict Refusal} (Err n) (Ok v) → A
 refused-given e = let z : ◌≡◌ {A = ℕ} 0 1 = cc in absurd (omega arith)
 
-given-same : {v w : Verdict} → Given v ≡ Given w → v ≡ w
+given-same : {v w : Verdict} → ◌≡◌ {A = Result Verdict Refusal} (Ok v) (Ok w) → v ≡ w
 given-same e = cc
 
 -- no two sentences hold at once
@@ -96,18 +95,18 @@ module _ (seed table payload : List ℕ) (ps : List Profile) (vs : List Variable
   distinct : repeated vs ≡ false
   distinct = (subst Reads r.payload_read (reads payload)).once
 
-  answered : answer_of seed table payload ≡ Given (verdict_of (attempt seed ps vs))
+  answered : answer_of seed table payload ≡ Ok (verdict_of (attempt seed ps vs))
   unfolding answer_of answer_by
   answered = rw (eq-eqb (length seed) seed_length r.seed_of_eight, r.table_read, r.payload_read)
 
-  exactly : (v : Verdict) → (answer_of seed table payload ≡ Given v) ↔ Sentence seed ps vs v
+  exactly : (v : Verdict) → (answer_of seed table payload ≡ Ok v) ↔ Sentence seed ps vs v
   exactly v =
       let d = given-exactly seed r.seed_of_eight (version_of table) ps ascending vs distinct v in (
         λ e. let same : verdict_of (attempt seed ps vs) ≡ v = given-same (sym answered ∙ e) in d.0 same,
-        λ s. answered ∙ ap Given (d.1 s),
+        λ s. answered ∙ ap Ok (d.1 s),
       )
 
-  granted-only : answer_of seed table payload ≡ Given Grant → InTableAndEnabled ps vs
+  granted-only : answer_of seed table payload ≡ Ok Grant → InTableAndEnabled ps vs
   granted-only e = granted-all seed r.seed_of_eight (version_of table) ps ascending vs distinct ((exactly Grant).0 e)
 
 pub verdict-is-its-sentence : VerdictIsItsSentence
@@ -118,7 +117,7 @@ only-enabled-granted seed table payload ps vs bytes r e = granted-only seed tabl
 
 -- a verdict is given where nothing is refused
 readable-by : (seed table payload : List ℕ) (v : Verdict) (t : TableReading) (q : Reading) → length seed ≡ seed_length → table_of table ≡ t → reading_of payload ≡ q
-    → answer_by seed t q ≡ Given v → Readable seed table payload
+    → answer_by seed t q ≡ Ok v → Readable seed table payload
 unfolding answer_by
 readable-by seed table payload v (table_refused n) q eight et eq e = refused-given e
 readable-by seed table payload v (profiles ps) (not_read n) eight et eq e = refused-given e
@@ -128,6 +127,6 @@ readable-by seed table payload v (profiles ps) (says first vs) eight et eq e =
 pub no-verdict-if-refused : NoVerdictIfRefused
 unfolding answer_of
 no-verdict-if-refused seed table payload v =
-    choice (λ a. a ≡ Given v → Readable seed table payload) (not (eqb (length seed) seed_length))
+    choice (λ a. a ≡ Ok v → Readable seed table payload) (not (eqb (length seed) seed_length))
     (λ _ e. refused-given e)
     (λ t e. readable-by seed table payload v (table_of table) (reading_of payload) (eqb-true (length seed) seed_length (not-false _ t)) refl refl e)

@@ -1,7 +1,6 @@
 pub mod Digits
 pub mod Attempt
 pub mod Verdict
-pub mod Refusals
 pub mod Theorems
 pub mod Reason
 pub mod ReasonTheorems

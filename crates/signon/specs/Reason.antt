@@ -3,9 +3,10 @@
 -- password malformed; token differs; granted. The reason given is .. the first that holds in that order, and each
 -- reason belongs to one verdict only." Each condition is stated by itself: a later one may hold where an earlier one
 -- does.
-use Rattle.std.specs.Prelude.{ℕ, Bool, true, not, ◌&&◌, ◌||◌, List, [], ◌∷◌, ◌++◌, eqb, length, if◌then◌else◌}
+use Rattle.std.specs.Prelude.{ℕ, Bool, true, not, ◌&&◌, ◌||◌, List, [], ◌∷◌, ◌++◌, eqb, length, if◌then◌else◌, Result, Ok, Err}
 use Rattle.octets.specs.Ascii.{ascii}
-use Rattle.refusal.specs.Refusal.{bad_server_seed}
+use Rattle.refusal.specs.declared.Refusal.{Refusal}
+use Rattle.refusal.specs.declared.Refusal.TheVariants.{BadServerSeed}
 use Rattle.env.specs.Variable.{present, value_or}
 use Rattle.env.specs.Read.{Reading, says, not_read, reading_of}
 use Rattle.names.specs.Name.{is_name, profile_limit}
@@ -20,10 +21,6 @@ use Rattle.signon.specs.declared.Reason.{Reason}
 use Rattle.signon.specs.declared.Reason.TheVariants.{PanelAskedFor, NoUser, BadName, NotInTheTable, Disabled, SeedVariableMissing}
 use Rattle.signon.specs.declared.Reason.TheVariants.{SubstituteMissing, SeedLength, SubstituteLength, DesNotAllowed}
 use Rattle.signon.specs.declared.Reason.TheVariants.{ClearPasswordMalformed, TokenDiffers, Granted}
-use Rattle.signon.specs.declared.Answer.{Answer}
-use Rattle.signon.specs.declared.Answer.TheVariants.{Given, Refused as NotGiven}
-use Rattle.signon.specs.declared.Explained.{Explained}
-use Rattle.signon.specs.declared.Explained.TheVariants.{Because, Refused}
 use Rattle.signon.specs.Attempt.{Attempt, attempt, is_present, of_profile, is_clear, grant_rules, one_holds}
 
 -- the reason in the request's words
@@ -154,17 +151,17 @@ unfoldable pub reason_of : Attempt → Reason
 reason_of a = first_cause (causes a) TokenDiffers
 
 -- an explanation by what the table and the payload say
-unfoldable pub explain_by : (server_seed : List ℕ) → TableReading → Reading → Explained
-explain_by seed (table_refused n) reading = Refused n
-explain_by seed (profiles ps) (not_read n) = Refused n
-explain_by seed (profiles ps) (says first vs) = Because (reason_of (attempt seed ps vs))
+unfoldable pub explain_by : (server_seed : List ℕ) → TableReading → Reading → Result Reason Refusal
+explain_by seed (table_refused e) reading = Err e
+explain_by seed (profiles ps) (not_read e) = Err e
+explain_by seed (profiles ps) (says first vs) = Ok (reason_of (attempt seed ps vs))
 
 -- "Refusals: those of the verdict, in its order."
-unfoldable pub explain_of : (server_seed table payload : List ℕ) → Explained
+unfoldable pub explain_of : (server_seed table payload : List ℕ) → Result Reason Refusal
 explain_of seed table payload =
-    if not (eqb (length seed) seed_length) then Refused bad_server_seed else explain_by seed (table_of table) (reading_of payload)
+    if not (eqb (length seed) seed_length) then Err BadServerSeed else explain_by seed (table_of table) (reading_of payload)
 
 -- the answer that an explanation belongs to
-abbrev pub answer_for : Explained → Answer
-answer_for (Because r) = Given (verdict_for r)
-answer_for (Refused n) = NotGiven n
+abbrev pub answer_for : Result Reason Refusal → Result Verdict Refusal
+answer_for (Ok r) = Ok (verdict_for r)
+answer_for (Err e) = Err e

@@ -1,7 +1,7 @@
 -- What is proved of reasons (change request No. 1): the one that is given is the first that holds, it belongs to the
 -- verdict that is given, it is "granted" exactly where demand 2 grants, and undefined variables decide nothing. The
 -- proofs are in `proofs/Reasons.antt`, `proofs/Conditions.antt` and `proofs/Undefined.antt`.
-use Rattle.std.specs.Prelude.{◌≡◌, true, false, List, [], ◌∷◌, ◌++◌, map, ◌↔◌, ◌⊎◌, ℕ, T, length}
+use Rattle.std.specs.Prelude.{◌≡◌, true, false, List, [], ◌∷◌, ◌++◌, map, ◌↔◌, ◌⊎◌, ℕ, T, length, Ok}
 use Rattle.octets.specs.Ascii.{ascii}
 use Rattle.octets.specs.Bytes.{Bytes}
 use Rattle.env.specs.Variable.{Variable, defined_ones}
@@ -12,10 +12,8 @@ use Rattle.profile.specs.Profile.{Profile, des_allowed, stored_des, stored_sha}
 use Rattle.password_sha.specs.Sha.{is_password, PW-token, PW-SUB}
 use Rattle.password_check.specs.Gives.{des_length, sha_length, seed_length, des_substitute_of}
 use Rattle.signon.specs.declared.Verdict.TheVariants.{Grant}
-use Rattle.signon.specs.declared.Answer.TheVariants.{Given}
 use Rattle.signon.specs.declared.Reason.{Reason}
 use Rattle.signon.specs.declared.Reason.TheVariants.{Granted as IsGranted}
-use Rattle.signon.specs.declared.Explained.TheVariants.{Because}
 use Rattle.signon.specs.Attempt.{Attempt, attempt}
 use Rattle.signon.specs.Verdict.{answer_of}
 use Rattle.signon.specs.Theorems.{zero_seed, Granted, Session}
@@ -38,7 +36,7 @@ pub record IsFirst (cs : List Cause) (r : Reason) : Type 0 where
 abbrev pub ReasonIsFirst : Type 0
 ReasonIsFirst =
     (seed table payload : List ℕ) (ps : List Profile) (vs : List Variable) → Session seed table payload ps vs
-    → (r : Reason) → (explain_of seed table payload ≡ Because r) ↔ IsFirst (causes (attempt seed ps vs)) r
+    → (r : Reason) → (explain_of seed table payload ≡ Ok r) ↔ IsFirst (causes (attempt seed ps vs)) r
 
 -- One of them always holds.
 abbrev pub SomeCauseHolds : Type 0
@@ -51,9 +49,9 @@ VerdictOfItsReason = (seed table payload : List ℕ) → answer_of seed table pa
 
 -- "granted" is given exactly where GRANT is, and so exactly where demand 2's sentence holds.
 pub record GrantedExactly : Type 0 where
-  pub grant : (seed table payload : List ℕ) → (explain_of seed table payload ≡ Because IsGranted) ↔ (answer_of seed table payload ≡ Given Grant)
+  pub grant : (seed table payload : List ℕ) → (explain_of seed table payload ≡ Ok IsGranted) ↔ (answer_of seed table payload ≡ Ok Grant)
   pub sentence : (seed table payload : List ℕ) (ps : List Profile) (vs : List Variable) → Bytes table → Session seed table payload ps vs
-      → (explain_of seed table payload ≡ Because IsGranted) ↔ Granted seed ps vs
+      → (explain_of seed table payload ≡ Ok IsGranted) ↔ Granted seed ps vs
 
 -- "verdicts and reasons treat an undefined variable as absent" (change request No. 3): those of a payload that is read
 -- are those of it written without its undefined variables.

@@ -1,6 +1,6 @@
 -- What is proved of verdicts: each is given exactly where its sentence holds. The sentences are those of the owner's
 -- demand 2 and of the specification, and say nothing of how a verdict is found. The proofs are in `proofs/`.
-use Rattle.std.specs.Prelude.{◌≡◌, false, List, [], ◌↔◌, ◌⊎◌, ℕ, T, length, replicate}
+use Rattle.std.specs.Prelude.{◌≡◌, false, List, [], ◌↔◌, ◌⊎◌, ℕ, T, length, replicate, Ok}
 use Rattle.octets.specs.Bytes.{Bytes}
 use Rattle.env.specs.Variable.{undefined, defined, Variable, VAR, USERVAR}
 use Rattle.env.specs.Theorems as Env
@@ -14,7 +14,6 @@ use Rattle.password_sha.specs.Sha.{is_password, PW-token, PW-SUB}
 use Rattle.password_check.specs.Gives.{seed_length, des_substitute_of}
 use Rattle.signon.specs.declared.Verdict.{Verdict}
 use Rattle.signon.specs.declared.Verdict.TheVariants.{Panel, NotKnown, Disabled, Failed, Grant}
-use Rattle.signon.specs.declared.Answer.TheVariants.{Given}
 use Rattle.signon.specs.Attempt.{USER, IBMRSEED, IBMSUBSPW}
 use Rattle.signon.specs.Verdict.{answer_of}
 
@@ -97,7 +96,7 @@ pub record Session (seed table payload : List ℕ) (ps : List Profile) (vs : Lis
 abbrev pub VerdictIsItsSentence : Type 0
 VerdictIsItsSentence =
     (seed table payload : List ℕ) (ps : List Profile) (vs : List Variable) → Bytes table → Session seed table payload ps vs
-    → (v : Verdict) → (answer_of seed table payload ≡ Given v) ↔ Sentence seed ps vs v
+    → (v : Verdict) → (answer_of seed table payload ≡ Ok v) ↔ Sentence seed ps vs v
 
 -- what is read where a verdict is given
 pub record Readable (seed table payload : List ℕ) : Type 0 where
@@ -107,7 +106,7 @@ pub record Readable (seed table payload : List ℕ) : Type 0 where
 
 -- No verdict, and so no Grant, is given where something is refused.
 abbrev pub NoVerdictIfRefused : Type 0
-NoVerdictIfRefused = (seed table payload : List ℕ) (v : Verdict) → answer_of seed table payload ≡ Given v → Readable seed table payload
+NoVerdictIfRefused = (seed table payload : List ℕ) (v : Verdict) → answer_of seed table payload ≡ Ok v → Readable seed table payload
 
 -- Whatever is offered, a profile that is not enabled or not in the table is not granted: where Grant is given, every
 -- profile that the user names, and there is one, is in the table and enabled.
@@ -118,4 +117,4 @@ pub record InTableAndEnabled (ps : List Profile) (vs : List Variable) : Type 0 w
 abbrev pub OnlyEnabledGranted : Type 0
 OnlyEnabledGranted =
     (seed table payload : List ℕ) (ps : List Profile) (vs : List Variable) → Bytes table → Session seed table payload ps vs
-    → answer_of seed table payload ≡ Given Grant → InTableAndEnabled ps vs
+    → answer_of seed table payload ≡ Ok Grant → InTableAndEnabled ps vs

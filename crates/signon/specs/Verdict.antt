@@ -1,6 +1,7 @@
 -- The verdict (specification, "Verdict, first that holds"), and the order of refusals: 35, 30 to 32, 3, 20 to 25.
-use Rattle.std.specs.Prelude.{ℕ, Bool, true, not, ◌&&◌, List, [], ◌∷◌, map, eqb, length, if◌then◌else◌}
-use Rattle.refusal.specs.Refusal.{bad_server_seed}
+use Rattle.std.specs.Prelude.{ℕ, Bool, true, not, ◌&&◌, List, [], ◌∷◌, map, eqb, length, if◌then◌else◌, Result, Ok, Err}
+use Rattle.refusal.specs.declared.Refusal.{Refusal}
+use Rattle.refusal.specs.declared.Refusal.TheVariants.{BadServerSeed}
 use Rattle.env.specs.Variable.{value_or}
 use Rattle.env.specs.Read.{Reading, says, not_read, reading_of}
 use Rattle.names.specs.Name.{is_name, profile_limit}
@@ -9,8 +10,6 @@ use Rattle.profile.specs.Table.{TableReading, profiles, table_refused, table_of}
 use Rattle.password_check.specs.Gives.{seed_length}
 use Rattle.signon.specs.declared.Verdict.{Verdict}
 use Rattle.signon.specs.declared.Verdict.TheVariants.{Panel, NotKnown, Disabled, Failed, Grant}
-use Rattle.signon.specs.declared.Answer.{Answer}
-use Rattle.signon.specs.declared.Answer.TheVariants.{Given, Refused}
 use Rattle.signon.specs.Attempt.{Attempt, attempt, is_present, of_profile, GrantRule, grant_rules}
 
 -- a condition and its verdict
@@ -55,12 +54,12 @@ unfoldable pub verdict_of : Attempt → Verdict
 verdict_of a = first_of (conditions a) Failed
 
 -- an answer by what the table and the payload say
-unfoldable pub answer_by : (server_seed : List ℕ) → TableReading → Reading → Answer
-answer_by seed (table_refused n) reading = Refused n
-answer_by seed (profiles ps) (not_read n) = Refused n
-answer_by seed (profiles ps) (says first vs) = Given (verdict_of (attempt seed ps vs))
+unfoldable pub answer_by : (server_seed : List ℕ) → TableReading → Reading → Result Verdict Refusal
+answer_by seed (table_refused e) reading = Err e
+answer_by seed (profiles ps) (not_read e) = Err e
+answer_by seed (profiles ps) (says first vs) = Ok (verdict_of (attempt seed ps vs))
 
 -- the answer to a server seed, a table and a payload
-unfoldable pub answer_of : (server_seed table payload : List ℕ) → Answer
+unfoldable pub answer_of : (server_seed table payload : List ℕ) → Result Verdict Refusal
 answer_of seed table payload =
-    if not (eqb (length seed) seed_length) then Refused bad_server_seed else answer_by seed (table_of table) (reading_of payload)
+    if not (eqb (length seed) seed_length) then Err BadServerSeed else answer_by seed (table_of table) (reading_of payload)

@@ -1,46 +1,34 @@
 // Sign-on verdicts and their reasons: what is right, and the types of an answer. Start with `specs/Verdict.antt` and
 // `specs/Reason.antt`; what is proved of them is in `specs/Theorems.antt` and `specs/ReasonTheorems.antt`.
 
-// A verdict (the specification's own term).
 #![tactic(auto)]
 
-#[derive(Clone, Copy)]
+// A verdict (the specification's own term). C is given its number: 0002, 0003 and 0004 by their digits, PANEL before
+// them and GRANT after them.
+#[derive(Clone, Copy, PartialEq, Eq)]
 pub enum Verdict {
-    Panel,
-    NotKnown,
-    Disabled,
-    Failed,
-    Grant,
+    Panel = 1,
+    NotKnown = 2,
+    Disabled = 3,
+    Failed = 4,
+    Grant = 5,
 }
 
-// A verdict, or the number of a refusal.
-#[derive(Clone, Copy)]
-pub enum Answer {
-    Given(Verdict),
-    Refused(u8),
-}
-
-// Why a sign-on is answered as it is (change request No. 1, in its words and order).
-#[derive(Clone, Copy)]
+// Why a sign-on is answered as it is (change request No. 1, in its words and order). The tens of a reason's number, which
+// C is given, are the number of its verdict; there is room for later reasons between them.
+#[derive(Clone, Copy, PartialEq, Eq)]
 pub enum Reason {
-    PanelAskedFor,
-    NoUser,
-    BadName,
-    NotInTheTable,
-    Disabled,
-    SeedVariableMissing,
-    SubstituteMissing,
-    SeedLength,
-    SubstituteLength,
-    DesNotAllowed,
-    ClearPasswordMalformed,
-    TokenDiffers,
-    Granted,
-}
-
-// A reason, or the number of a refusal.
-#[derive(Clone, Copy)]
-pub enum Explained {
-    Because(Reason),
-    Refused(u8),
+    PanelAskedFor = 10,
+    NoUser = 21,
+    BadName = 22,
+    NotInTheTable = 23,
+    Disabled = 31,
+    SeedVariableMissing = 41,
+    SubstituteMissing = 42,
+    SeedLength = 43,
+    SubstituteLength = 45,
+    DesNotAllowed = 46,
+    ClearPasswordMalformed = 48,
+    TokenDiffers = 49,
+    Granted = 50,
 }

@@ -1,2 +1,2 @@
 -- Definitions that only the contracts of private functions speak of.
-pub mod Given
+pub mod Told

@@ -8,7 +8,8 @@ ghost use Rattle.octets.specs.Lent.{outcome, at_front};
 ghost use Rattle.signon_text.specs.Printed.{explained as explained_in, line_of, printed};
 
 use password_check::SEED_LENGTH;
-use signon::Explained;
+use refusal::Refusal;
+use signon::Reason;
 
 // The most bytes of input, and room for every line.
 pub const LIMIT: usize = 65536;
@@ -26,17 +27,17 @@ fn put_refusal(number: u8, out: &mut [u8; ROOM]) -> usize
     end + 1
 }
 
-fn put_explained(explained: Explained, out: &mut [u8; ROOM]) -> usize
+fn put_explained(explained: Result<Reason, Refusal>, out: &mut [u8; ROOM]) -> usize
     ensures { outcome result out.new ≡ at_front (line_of explained) out.old }
 {
     match explained {
-        Explained::Because(reason) => signon_words::put_reason(reason, out),
-        Explained::Refused(number) => put_refusal(number, out),
+        Ok(reason) => signon_words::put_reason(reason, out),
+        Err(e) => put_refusal(e.number(), out),
     }
 }
 
 // The server seed is the first eight bytes; the table comes after its length, and the payload after the table.
-fn explained(input: &[u8]) -> Explained
+fn explained(input: &[u8]) -> Result<Reason, Refusal>
     ensures { result ≡ explained_in input.now }
 {
     signon_reason::explain(

@@ -6,7 +6,8 @@ ghost use Rattle.std.specs.Prelude.{◌≡◌};
 ghost use Rattle.signon.specs.Verdict.{answer_of};
 ghost use Rattle.signon.specs.Reason.{verdict_for};
 
-use signon::{Answer, Explained, Reason, Verdict};
+use refusal::Refusal;
+use signon::{Reason, Verdict};
 
 // The one verdict that a reason belongs to.
 pub fn verdict_for(reason: Reason) -> Verdict
@@ -30,11 +31,9 @@ pub fn verdict_for(reason: Reason) -> Verdict
 }
 
 // The verdict, or a refusal: 35; 30, 31, 32; 3; 20 to 25.
-pub fn verdict(server_seed: &[u8], table: &[u8], payload: &[u8]) -> Answer
+pub fn verdict(server_seed: &[u8], table: &[u8], payload: &[u8]) -> Result<Verdict, Refusal>
     ensures { result ≡ answer_of server_seed.now table.now payload.now }
 {
-    match signon_reason::explain(server_seed, table, payload) {
-        Explained::Because(reason) => Answer::Given(verdict_for(reason)),
-        Explained::Refused(number) => Answer::Refused(number),
-    }
+    let reason = signon_reason::explain(server_seed, table, payload)?;
+    Ok(verdict_for(reason))
 }

@@ -8,8 +8,8 @@ use lib.ListN.{length, replicate, length-append, length-map}
 use Rattle.octets.specs.Lent.{outcome, overwrite}
 use Rattle.octets.specs.Promise.{put_at}
 use Rattle.octets.proofs.Promise.{front-short, front_fits}
-use Rattle.refusal.specs.declared.Written.TheVariants.{Wrote, Refused}
-use Rattle.refusal.specs.Refusal.{no_room, bad_device_or_system_name}
+use Rattle.std.specs.Prelude.{Ok, Err}
+use Rattle.refusal.specs.declared.Refusal.TheVariants.{NoRoom, BadDeviceOrSystemName}
 use Rattle.refusal.specs.Written.{written_into}
 use Rattle.octets.proofs.Overwrite.{overwrite-nil}
 use Rattle.octets.proofs.Pieces.{put-after}
@@ -76,12 +76,12 @@ pub code-four : (fault : Bool) (v : Verdict) → length (code_of fault v) ≡ 4
 code-four fault v = omega (arith, length-code fault v, length-map (raised (code_of fault v)) ebcdic, length-map (code_of fault v) raised_byte)
 
 module _ (fault : Bool) (v : Verdict) (system device out : List ℕ) where
-  pub bad-device : is_name device_limit device ≡ false → outcome (Refused bad_device_or_system_name) out ≡ respond_into fault v system device out
+  pub bad-device : is_name device_limit device ≡ false → outcome (Err BadDeviceOrSystemName) out ≡ respond_into fault v system device out
   unfolding respond_into
   bad-device d = rw d
 
   module _ (d : is_name device_limit device ≡ true) where
-    pub bad-system : is_name system_limit system ≡ false → outcome (Refused bad_device_or_system_name) out ≡ respond_into fault v system device out
+    pub bad-system : is_name system_limit system ≡ false → outcome (Err BadDeviceOrSystemName) out ≡ respond_into fault v system device out
     unfolding respond_into
     bad-system s = rw (d, s)
 
@@ -90,13 +90,13 @@ module _ (fault : Bool) (v : Verdict) (system device out : List ℕ) where
       unfolding respond_into
       written = rw (d, s)
 
-      pub no_room_lem : length out < 73 → outcome (Refused no_room) out ≡ respond_into fault v system device out
+      pub no_room_lem : length out < 73 → outcome (Err NoRoom) out ≡ respond_into fault v system device out
       no_room_lem h =
           let n = length-response fault v system device s d in
           sym (written ∙ front-short _ _ (response_of fault v system device) out (omega arith))
 
       pub wrote : 73 ≤ length out → (left : List ℕ) → left ≡ overwrite out 0 (laid_out (code_of fault v) system device)
-          → outcome (Wrote 73) left ≡ respond_into fault v system device out
+          → outcome (Ok 73) left ≡ respond_into fault v system device out
       wrote h left e =
           let n = length-response fault v system device s d in
           let r = response_of fault v system device in

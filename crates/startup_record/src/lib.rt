@@ -7,13 +7,14 @@ ghost use Rattle.startup.specs.Response.{code_of, fixed_fields};
 ghost use Rattle.startup_record.specs.Promise.{respond_into};
 ghost use Rattle.startup_record.specs.Internal.Parts.{laid_out, Fits};
 
-use refusal::Written;
+use refusal::Refusal;
 use signon::Verdict;
 
 // How long a record is.
 pub const RECORD_LENGTH: usize = 73;
 
 // The response code, in ASCII: a device fault outranks the verdict.
+#[tactic(auto, unfolding(startup::specs::Response::code_of))]
 fn code(device_fault: bool, verdict: Verdict) -> [u8; 4]
     ensures { result ≡ code_of device_fault verdict }
 {
@@ -24,12 +25,12 @@ fn code(device_fault: bool, verdict: Verdict) -> [u8; 4]
         Verdict::NotKnown => *b"0002",
         Verdict::Disabled => *b"0003",
         Verdict::Failed => *b"0004",
-        Verdict::Panel => *b"I902",
-        Verdict::Grant => *b"I902",
+        Verdict::Panel | Verdict::Grant => *b"I902",
     }
 }
 
 // The fixed value fields: those of figure 1 where the session starts, else those of figure 2.
+#[tactic(auto, unfolding(startup::specs::Response::fixed_fields))]
 fn fixed_fields(code: [u8; 4]) -> [u8; 12]
     ensures { result ≡ fixed_fields code }
 {
@@ -64,18 +65,18 @@ pub fn response(
     system: &[u8],
     device: &[u8],
     out: &mut [u8],
-) -> Written
+) -> Result<usize, Refusal>
     ensures { outcome result out.new ≡ respond_into device_fault verdict system.now device.now out.old }
 {
     if !names::is_name(device, names::DEVICE_LIMIT) {
-        return Written::Refused(refusal::BAD_DEVICE_OR_SYSTEM_NAME);
+        return Err(Refusal::BadDeviceOrSystemName);
     }
     if !names::is_name(system, names::SYSTEM_LIMIT) {
-        return Written::Refused(refusal::BAD_DEVICE_OR_SYSTEM_NAME);
+        return Err(Refusal::BadDeviceOrSystemName);
     }
     if out.len() < RECORD_LENGTH {
-        return Written::Refused(refusal::NO_ROOM);
+        return Err(Refusal::NoRoom);
     }
     put_fields(code(device_fault, verdict), system, device, out);
-    Written::Wrote(RECORD_LENGTH)
+    Ok(RECORD_LENGTH)
 }

@@ -31,7 +31,7 @@ after_first bs e es how h = go (event_of bs) (sym (unrolled bs) ∙ h)
   where
     go : (f : Front) → read_on bs f ≡ reads (e ∷ es) how → reading (drop (length (written e)) bs) ≡ reads es how
     go no_event g = let both = same_reads g in cc
-    go (refused n) g = let both = same_reads g in cc
+    go (refused why) g = let both = same_reads g in cc
     go (found f) g =
         let both = same_reads g in
         let r = reading (drop (length (written f)) bs) in

@@ -1,24 +1,25 @@
--- What is at the front of bytes is refused by 1, 2, 3 or 6: what holds of these four holds of the number. Assumes
+-- What is at the front of bytes is refused by 1, 2, 3 or 6: what holds of these four holds of the refusal. Assumes
 -- nothing.
 use mathlib.Core.List.{List, [], ◌∷◌}
 use Prim.Native.Nat.{ℕ}
 use lib.Dec.{eqb, ltb}
 use lib.ListN.{length, drop}
 use Rattle.octets.proofs.Choice.{choice}
-use Rattle.refusal.specs.Refusal.{cut_short, undoubled as undoubled_iac, payload_too_long, bad_command}
+use Rattle.refusal.specs.declared.Refusal.{Refusal}
+use Rattle.refusal.specs.declared.Refusal.TheVariants.{CutShort, Undoubled, PayloadTooLong, BadCommand}
 use Rattle.telnet.specs.declared.Lead.{Lead}
 use Rattle.telnet.specs.declared.Lead.TheVariants.{Faulty, Opens, Negotiates, Simple}
 use Rattle.telnet.specs.Event.{lead, payload_limit, se}
 use Rattle.telnet.specs.Write.{doubled}
 use Rattle.telnet.specs.Read.{Front, no_event, found, refused, data_run, closed, after_sb, after_verb, after_lead, after_iac, run_or, event_of}
 
-module _ (P : ℕ → Type 0) where
+module _ (P : Refusal → Type 0) where
   abbrev pub FrontBy : Front → Type 0
   FrontBy no_event = Unit {0}
   FrontBy (found e) = Unit {0}
-  FrontBy (refused n) = P n
+  FrontBy (refused why) = P why
 
-  module _ (one : P cut_short) (two : P undoubled_iac) (three : P payload_too_long) (six : P bad_command) where
+  module _ (one : P CutShort) (two : P Undoubled) (three : P PayloadTooLong) (six : P BadCommand) where
     closed-by : (o : ℕ) (p bs : List ℕ) → FrontBy (closed o p bs)
     unfolding closed
     closed-by o p [] = one

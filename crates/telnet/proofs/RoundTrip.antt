@@ -11,6 +11,7 @@ use lib.Dec.{T, eqb, ltb, leb, leb→le, ltb→lt, eqb→eq}
 use lib.ListN.{length}
 use lib.Seq.{append_snoc}
 use mir.Facts.{and_yes, or_yes}
+use Rattle.refusal.specs.declared.Refusal.{Refusal}
 use Rattle.telnet.specs.declared.Verb.{Verb}
 use Rattle.telnet.specs.declared.Verb.TheVariants.{Will, Wont, Do, Dont}
 use Rattle.telnet.specs.declared.Lead.{Lead}
@@ -61,11 +62,11 @@ held (choosing v) = iac ∷ code v ∷ []
 held opening = iac ∷ sb ∷ []
 held (payload o p) = iac ∷ sb ∷ o ∷ doubled p
 held (closing o p) = iac ∷ sb ∷ o ∷ (doubled p ++ iac ∷ [])
-held (failed n) = []
+held (failed why) = []
 
 -- a step that fails, or loses no byte of l
 data Keeps (l : List ℕ) : Step → Type 0 where
-  fails : {es : List Event} {n : ℕ} → Keeps l (goes es (failed n))
+  fails : {es : List Event} {why : Refusal} → Keeps l (goes es (failed why))
   keeps : {es : List Event} {m : Mode} → written_all es ++ held m ≡ l → Keeps l (goes es m)
 
 doubled_snoc : (p : List ℕ) (b : ℕ) → eqb b iac ≡ false → doubled (p ++ b ∷ []) ≡ doubled p ++ b ∷ []
@@ -101,7 +102,7 @@ step_keeps (payload o p) b =
 step_keeps (closing o p) b =
     choice (Keeps _) (eqb b iac) (λ e. grown-keeps o p b _ (rw (doubled-snoc-iac p b e))) λ e.
     choice (Keeps _) (eqb b se) (λ e. keeps (simp (append-nil, append_snoc, eqb-true b se e))) λ _. fails
-step_keeps (failed n) b = fails
+step_keeps (failed why) b = fails
 
 stops-keeps : (m : Mode) → (stops m).ending ≡ well → written_all (stops m).events ≡ held m ++ []
 unfolding stops held
@@ -111,7 +112,7 @@ stops-keeps (choosing v) h = cc
 stops-keeps opening h = cc
 stops-keeps (payload o p) h = cc
 stops-keeps (closing o p) h = cc
-stops-keeps (failed n) h = cc
+stops-keeps (failed why) h = cc
 
 all-kept : (bs : List ℕ) (m : Mode) → (reading_from m bs).ending ≡ well → written_all (reading_from m bs).events ≡ held m ++ bs
 unfolding reading_from
@@ -121,7 +122,7 @@ all-kept (b ∷ bs) m h = go (step_byte m b) (step_keeps m b) (λ m'. all-kept b
     go : (s : Step) → Keeps (held m ++ b ∷ []) s
         → ((m' : Mode) → (reading_from m' bs).ending ≡ well → written_all (reading_from m' bs).events ≡ held m' ++ bs)
         → (reading_from s.mode bs).ending ≡ well → written_all (s.completes ++ (reading_from s.mode bs).events) ≡ held m ++ b ∷ bs
-    go s (fails {n = n}) rest h = cc (stays-failed n bs)
+    go s (fails {why = why}) rest h = cc (stays-failed why bs)
     go s (keeps {es = es} {m = m'} e) rest h =
         rw (written-append, rest m' h, ← append_assoc (written_all es) (held m') bs, e, append_snoc)
 

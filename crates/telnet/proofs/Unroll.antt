@@ -21,13 +21,14 @@ use Rattle.telnet.specs.Whole.{reads, before, reading_from, reading}
 use Rattle.telnet.specs.Theorems.{read_on, Unrolled}
 use Rattle.telnet.proofs.Stretch.{Stopped, at-end, at-iac, at-command, Stretched, stretch, after-stretch, doubled-append, absorb}
 use Rattle.telnet.proofs.Stretch.{absorbs-data, payload-read}
-use Rattle.refusal.specs.Refusal.{undoubled as undoubled_iac, payload_too_long, bad_command}
+use Rattle.refusal.specs.declared.Refusal.{Refusal}
+use Rattle.refusal.specs.declared.Refusal.TheVariants.{Undoubled, PayloadTooLong, BadCommand}
 
 -- what is refused stays refused
-pub stays-failed : (n : ℕ) (bs : List ℕ) → reading_from (failed n) bs ≡ reads [] (refusal n)
+pub stays-failed : (why : Refusal) (bs : List ℕ) → reading_from (failed why) bs ≡ reads [] (refusal why)
 unfolding reading_from step_byte stops
-stays-failed n [] = refl
-stays-failed n (b ∷ bs) = stays-failed n bs
+stays-failed why [] = refl
+stays-failed why (b ∷ bs) = stays-failed why bs
 
 flush : (r bs : List ℕ) → Stopped bs → reading_from (data' r) bs ≡ before (ended r) (reading_from (data' []) bs)
 unfolding reading_from step_byte stops ended leads
@@ -48,18 +49,18 @@ unfolding reading
 run-read d bs s = absorb data' iac_seen (length d) (absorbs-data (length d)) [] d bs (omega arith) ∙ flush d bs s
 
 full : (o : ℕ) (p : List ℕ) (b : ℕ) (d bs : List ℕ) → length p ≡ payload_limit
-    → reading_from (payload o p) (doubled (b ∷ d) ++ bs) ≡ reads [] (refusal payload_too_long)
+    → reading_from (payload o p) (doubled (b ∷ d) ++ bs) ≡ reads [] (refusal PayloadTooLong)
 unfolding doubled reading_from step_byte grown
 full o p b d bs h = go (eqb b iac) refl (le-ltb (length p) payload_limit (le_of_eq (sym h)))
   where
     go : (t : Bool) → eqb b iac ≡ t → ltb (length p) payload_limit ≡ false
-        → reading_from (payload o p) (doubled (b ∷ d) ++ bs) ≡ reads [] (refusal payload_too_long)
-    go true e f = rw (e, e, e, f) (stays-failed payload_too_long (doubled d ++ bs))
-    go false e f = rw (e, e, f) (stays-failed payload_too_long (doubled d ++ bs))
+        → reading_from (payload o p) (doubled (b ∷ d) ++ bs) ≡ reads [] (refusal PayloadTooLong)
+    go true e f = rw (e, e, e, f) (stays-failed PayloadTooLong (doubled d ++ bs))
+    go false e f = rw (e, e, f) (stays-failed PayloadTooLong (doubled d ++ bs))
 
 -- the byte after the last that a payload may have is refused
 too_long : (o : ℕ) (d bs : List ℕ) → payload_limit < length d
-    → reading_from (payload o []) (doubled d ++ bs) ≡ reads [] (refusal payload_too_long)
+    → reading_from (payload o []) (doubled d ++ bs) ≡ reads [] (refusal PayloadTooLong)
 too_long o d bs h =
     let p = take payload_limit d in
     let l : length p ≡ payload_limit = length-take-le payload_limit d (omega arith) in
@@ -78,12 +79,12 @@ after-payload b c o p (x ∷ y ∷ bs) (at-command e f) = rw (e, f) (go (eqb y s
     line = b ∷ c ∷ o ∷ (doubled p ++ x ∷ y ∷ bs)
 
     closes : Bool → Step
-    closes t = if t then goes (subnegotiation o p ∷ []) (data' []) else goes [] (failed undoubled_iac)
+    closes t = if t then goes (subnegotiation o p ∷ []) (data' []) else goes [] (failed Undoubled)
 
     go : (t : Bool) → before (closes t).completes (reading_from (closes t).mode bs)
-        ≡ read_on line (if t then found (subnegotiation o p) else refused undoubled_iac)
+        ≡ read_on line (if t then found (subnegotiation o p) else refused Undoubled)
     go true = rw (length-append, drop-append-add)
-    go false = stays-failed undoubled_iac bs
+    go false = stays-failed Undoubled bs
 
 -- after 255 250
 after-opening : (b c : ℕ) (bs : List ℕ) → reading_from opening bs ≡ read_on (b ∷ c ∷ bs) (after_sb bs)
@@ -104,7 +105,7 @@ after-opening b c (o ∷ bs) = go (ltb payload_limit (length (data_run bs))) ref
 after-lead : (l : Lead) (b c : ℕ) (bs : List ℕ)
     → before (leads [] l c).completes (reading_from (leads [] l c).mode bs) ≡ read_on (b ∷ c ∷ bs) (after_lead l c bs)
 unfolding reading_from reading step_byte stops leads read_on after_lead after_verb written
-after-lead Faulty b c bs = stays-failed bad_command bs
+after-lead Faulty b c bs = stays-failed BadCommand bs
 after-lead Opens b c bs = after-opening b c bs
 after-lead Simple b c bs = refl
 after-lead (Negotiates v) b c [] = refl

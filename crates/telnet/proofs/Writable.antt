@@ -76,7 +76,7 @@ Within (choosing v) = Unit {0}
 Within opening = Unit {0}
 Within (payload o p) = length p ≤ payload_limit
 Within (closing o p) = length p ≤ payload_limit
-Within (failed n) = Unit {0}
+Within (failed why) = Unit {0}
 
 -- a step that completes writable events only
 record Sound (s : Step) : Type 0 where
@@ -117,7 +117,7 @@ step-sound (closing o p) b h w =
     choice Sound (eqb b se)
     (λ _. record { events = rw (le-leb (length p) payload_limit w) tt; within = tt })
     (λ _. record { events = tt; within = tt })
-step-sound (failed n) b h w = record { events = tt; within = tt }
+step-sound (failed why) b h w = record { events = tt; within = tt }
 
 stops-writable : (m : Mode) → T (all writable (stops m).events)
 unfolding stops all
@@ -127,7 +127,7 @@ stops-writable (choosing v) = tt
 stops-writable opening = tt
 stops-writable (payload o p) = tt
 stops-writable (closing o p) = tt
-stops-writable (failed n) = tt
+stops-writable (failed why) = tt
 
 from-writable : (bs : List ℕ) (m : Mode) → Bytes bs → Within m → T (all writable (reading_from m bs).events)
 unfolding reading_from

@@ -5,7 +5,8 @@ use Rattle.telnet.specs.declared.Lead.{Lead}
 use Rattle.telnet.specs.declared.Lead.TheVariants.{Faulty, Opens, Negotiates, Simple}
 use Rattle.telnet.specs.Event.{Event, run, command, negotiation, subnegotiation, lead, iac, se, payload_limit}
 use Rattle.telnet.specs.Write.{doubled}
-use Rattle.refusal.specs.Refusal.{cut_short, undoubled as undoubled_iac, payload_too_long, bad_command}
+use Rattle.refusal.specs.declared.Refusal.{Refusal}
+use Rattle.refusal.specs.declared.Refusal.TheVariants.{CutShort, Undoubled, PayloadTooLong, BadCommand}
 
 unfoldable mutual
   -- the longest stretch of data at the front, with each doubled 255 made one: it ends before a 255 that is not doubled
@@ -18,40 +19,40 @@ unfoldable mutual
   run_after_iac [] = []
   run_after_iac (c ∷ bs) = if eqb c iac then c ∷ data_run bs else []
 
--- what is at the front: nothing, an event, or what is refused by a number
+-- what is at the front: nothing, an event, or what is refused
 pub data Front : Type 0 where
   no_event : Front
   found : Event → Front
-  refused : ℕ → Front
+  refused : Refusal → Front
 
 -- after a payload: 255 240 closes the subnegotiation, 255 with another byte is refused
 unfoldable pub closed : ℕ → List ℕ → List ℕ → Front
-closed o p [] = refused cut_short
-closed o p (x ∷ []) = refused cut_short
-closed o p (x ∷ c ∷ rest) = if eqb c se then found (subnegotiation o p) else refused undoubled_iac
+closed o p [] = refused CutShort
+closed o p (x ∷ []) = refused CutShort
+closed o p (x ∷ c ∷ rest) = if eqb c se then found (subnegotiation o p) else refused Undoubled
 
 -- after 255 250: an option byte, then the payload, the longest stretch there
 unfoldable pub after_sb : List ℕ → Front
-after_sb [] = refused cut_short
+after_sb [] = refused CutShort
 after_sb (o ∷ bs) =
-    if ltb payload_limit (length (data_run bs)) then refused payload_too_long
+    if ltb payload_limit (length (data_run bs)) then refused PayloadTooLong
     else closed o (data_run bs) (drop (length (doubled (data_run bs))) bs)
 
 -- after 255 and an option command: an option byte, raw
 unfoldable pub after_verb : Verb → List ℕ → Front
-after_verb v [] = refused cut_short
+after_verb v [] = refused CutShort
 after_verb v (o ∷ bs) = found (negotiation v o)
 
 -- by what the byte c after a 255 begins
 unfoldable pub after_lead : Lead → ℕ → List ℕ → Front
-after_lead Faulty c bs = refused bad_command
+after_lead Faulty c bs = refused BadCommand
 after_lead Opens c bs = after_sb bs
 after_lead (Negotiates v) c bs = after_verb v bs
 after_lead Simple c bs = found (command c)
 
 -- after a 255 that is not doubled
 unfoldable pub after_iac : List ℕ → Front
-after_iac [] = refused cut_short
+after_iac [] = refused CutShort
 after_iac (c ∷ bs) = after_lead (lead c) c bs
 
 -- a run where there is data, else what is given

@@ -4,6 +4,8 @@
 -- `proofs/Between.antt` and `proofs/Faults.antt`.
 use Rattle.std.specs.Prelude.{◌≡◌, Bool, true, false, not, ◌&&◌, List, [], ◌∷◌, ◌++◌, ℕ, ◌+◌, T, length, drop}
 use Rattle.octets.specs.Bytes.{Bytes}
+use Rattle.refusal.specs.declared.Refusal.{Refusal}
+use Rattle.refusal.specs.Refusal.{number}
 use Rattle.telnet.specs.Event.{Event, run, command, negotiation, subnegotiation, iac, eor}
 use Rattle.telnet.specs.Write.{doubled, written, written_all, writable}
 use Rattle.telnet.specs.Read.{Front, no_event, found, refused, event_of}
@@ -42,7 +44,7 @@ ReadIsWritable = (bs : List ℕ) → Bytes bs → T (all writable (reading bs).e
 -- what the reading is, given what is at the front of the bytes
 unfoldable pub read_on : List ℕ → Front → Reading
 read_on bs no_event = reads [] well
-read_on bs (refused n) = reads [] (refusal n)
+read_on bs (refused why) = reads [] (refusal why)
 read_on bs (found e) = before (e ∷ []) (reading (drop (length (written e)) bs))
 
 -- The whole reading, a step a byte, is the reading of one event after another.
@@ -66,11 +68,11 @@ RecordReadsBack = (d bs : List ℕ) → record_of (doubled d ++ iac ∷ eor ∷ 
 
 -- "the first met from left to right": a fault stays whatever comes after it in the bytes. 1 is no such fault: it is
 -- told where the bytes end.
-pub record FaultStays (bs more : List ℕ) (n : ℕ) : Type 0 where
+pub record FaultStays (bs more : List ℕ) (why : Refusal) : Type 0 where
   -- of one event
-  pub event : event_of bs ≡ refused n → event_of (bs ++ more) ≡ refused n
+  pub event : event_of bs ≡ refused why → event_of (bs ++ more) ≡ refused why
   -- and of a stream, with all that was read before it
-  pub stream : (reading bs).ending ≡ refusal n → reading (bs ++ more) ≡ reading bs
+  pub stream : (reading bs).ending ≡ refusal why → reading (bs ++ more) ≡ reading bs
 
 abbrev pub FirstFaultDecides : Type 0
-FirstFaultDecides = (bs more : List ℕ) (n : ℕ) → (n ≡ 1 → ⊥) → FaultStays bs more n
+FirstFaultDecides = (bs more : List ℕ) (why : Refusal) → (number why ≡ 1 → ⊥) → FaultStays bs more why

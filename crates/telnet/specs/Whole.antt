@@ -5,12 +5,13 @@ use Rattle.telnet.specs.declared.Verb.{Verb}
 use Rattle.telnet.specs.declared.Lead.{Lead}
 use Rattle.telnet.specs.declared.Lead.TheVariants.{Faulty, Opens, Negotiates, Simple}
 use Rattle.telnet.specs.Event.{Event, run, command, negotiation, subnegotiation, lead, iac, se, payload_limit}
-use Rattle.refusal.specs.Refusal.{cut_short, undoubled as undoubled_iac, payload_too_long, bad_command}
+use Rattle.refusal.specs.declared.Refusal.{Refusal}
+use Rattle.refusal.specs.declared.Refusal.TheVariants.{CutShort, Undoubled, PayloadTooLong, BadCommand}
 
 -- how a reading ended: at the end of the bytes, or by a refusal
 pub data Ending : Type 0 where
   well : Ending
-  refusal : ℕ → Ending
+  refusal : Refusal → Ending
 
 pub record Reading : Type 0 where
   pub events : List Event
@@ -33,7 +34,7 @@ pub data Mode : Type 0 where
   -- in a payload, with its option and the payload so far; after a 255 there
   payload closing : ℕ → List ℕ → Mode
   -- refused
-  failed : ℕ → Mode
+  failed : Refusal → Mode
 
 -- a step: the events that it completes, and where the reader is then
 pub record Step : Type 0 where
@@ -50,14 +51,14 @@ ended (d ∷ ds) = run (d ∷ ds) ∷ []
 
 -- the byte c after a 255 that is not doubled, after the events es
 unfoldable pub leads : List Event → Lead → ℕ → Step
-leads es Faulty c = goes es (failed bad_command)
+leads es Faulty c = goes es (failed BadCommand)
 leads es Opens c = goes es opening
 leads es (Negotiates v) c = goes es (choosing v)
 leads es Simple c = goes (es ++ command c ∷ []) (data' [])
 
 -- one more payload byte, within the limit
 unfoldable pub grown : (o : ℕ) → List ℕ → (b : ℕ) → Step
-grown o p b = if ltb (length p) payload_limit then goes [] (payload o (p ++ b ∷ [])) else goes [] (failed payload_too_long)
+grown o p b = if ltb (length p) payload_limit then goes [] (payload o (p ++ b ∷ [])) else goes [] (failed PayloadTooLong)
 
 unfoldable pub step_byte : Mode → ℕ → Step
 step_byte (data' r) b = if eqb b iac then goes [] (iac_seen r) else goes [] (data' (r ++ b ∷ []))
@@ -68,18 +69,18 @@ step_byte (payload o p) b = if eqb b iac then goes [] (closing o p) else grown o
 step_byte (closing o p) b =
     if eqb b iac then grown o p b else
     if eqb b se then goes (subnegotiation o p ∷ []) (data' []) else
-    goes [] (failed undoubled_iac)
-step_byte (failed n) b = goes [] (failed n)
+    goes [] (failed Undoubled)
+step_byte (failed why) b = goes [] (failed why)
 
 -- where the bytes end
 unfoldable pub stops : Mode → Reading
 stops (data' r) = reads (ended r) well
-stops (iac_seen r) = reads (ended r) (refusal cut_short)
-stops (choosing v) = reads [] (refusal cut_short)
-stops opening = reads [] (refusal cut_short)
-stops (payload o p) = reads [] (refusal cut_short)
-stops (closing o p) = reads [] (refusal cut_short)
-stops (failed n) = reads [] (refusal n)
+stops (iac_seen r) = reads (ended r) (refusal CutShort)
+stops (choosing v) = reads [] (refusal CutShort)
+stops opening = reads [] (refusal CutShort)
+stops (payload o p) = reads [] (refusal CutShort)
+stops (closing o p) = reads [] (refusal CutShort)
+stops (failed why) = reads [] (refusal why)
 
 -- the reading from a mode on: one step a byte
 unfoldable pub reading_from : Mode → List ℕ → Reading

@@ -2,7 +2,7 @@
 // buffer, is said in `specs/Promise.antt`.
 #![tactic(auto)]
 
-ghost use Rattle.std.specs.Prelude.{◌≡◌, ◌≤◌, min, length, drop};
+ghost use Rattle.std.specs.Prelude.{◌≡◌, ◌≤◌, length, drop};
 ghost use Rattle.octets.specs.Lent.{outcome};
 ghost use Rattle.telnet_data.specs.Promise.{extent_at, copy_run};
 ghost use Rattle.telnet_data.specs.Internal.Pieces.{is_doubled, PlainCopied};
@@ -20,16 +20,7 @@ pub struct Extent {
 fn is_doubled(s: &[u8], at: usize) -> bool
     ensures { result ≡ is_doubled (drop at s.now) }
 {
-    if s.len() <= at {
-        return false;
-    }
-    if s.len() - at < 2 {
-        return false;
-    }
-    if s[at] != IAC {
-        return false;
-    }
-    s[at + 1] == IAC
+    octets_part::part(s, at, 2) == [IAC, IAC].as_slice()
 }
 
 // The longest stretch of data at a place.
@@ -53,22 +44,12 @@ pub fn measure(s: &[u8], at: usize) -> Extent
     Extent { count: n, end: i }
 }
 
-// The smaller of two numbers.
-fn smaller(a: usize, b: usize) -> usize
-    ensures { result ≡ min a b }
-{
-    if a < b {
-        return a;
-    }
-    b
-}
-
 // Copies the bytes before the next 255, or as many of them as there is room for; the answer is how many.
 fn copy_plain(s: &[u8], at: usize, out: &mut [u8], to: usize) -> usize
     requires { to ≤ length out.old }
     ensures { PlainCopied s.now at out.old to result out.new }
 {
-    let n = smaller(octets_find::find_byte(s, at, IAC) - at, out.len() - to);
+    let n = (octets_find::find_byte(s, at, IAC) - at).min(out.len() - to);
     octets::put(octets_part::part(s, at, n), out, to);
     n
 }

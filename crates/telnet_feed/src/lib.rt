@@ -3,44 +3,36 @@
 // right is said in the crate `telnet_fragments`.
 #![tactic(auto)]
 
-ghost use Rattle.std.specs.Prelude.{◌≡◌, ◌+◌, ◌≤◌, length, take};
-ghost use Rattle.octets.specs.Lent.{overwrite};
-ghost use Rattle.telnet.specs.declared.Kind.TheVariants.{Data as NoEvent};
+ghost use Rattle.std.specs.Prelude.{◌≡◌, ◌≤◌, None, Some};
 ghost use Rattle.telnet_feed.specs.Internal.Answers.{taken, payload_length};
 ghost use Rattle.telnet_fragments.specs.Promise.{fresh_reader, Fed, ClosedAs};
 
+use refusal::Refusal;
 use telnet::{Kind, PAYLOAD_LIMIT};
-use telnet_fragments::{CALL_LIMIT, Closed, ROOM, Reader, Stage, Taken};
+use telnet_fragments::{CALL_LIMIT, ROOM, Reader, Stage, Taken};
+use telnet_pass::Run;
 
-// Puts the payload of a subnegotiation at a place of the room; any other event has none. The answer is how many bytes
-// it has.
-fn put_payload(kind: Kind, count: usize, kept: &[u8], room: &mut [u8], at: usize) -> usize
-    requires { (length kept.now ≡ 1024) × (at + 1024 ≤ length room.old) }
-    ensures { (result ≡ payload_length kind count)
-        × (room.new ≡ overwrite room.old at (take result kept.now)) }
+// How many bytes an event of a kind carries, if there is one, of so many that are kept.
+fn payload_length(kind: Option<Kind>, count: usize) -> usize
+    ensures is { result ≡ payload_length kind count }
+    ensures most { result ≤ 1024 }
 {
     match kind {
-        Kind::Data => return 0,
-        Kind::Command(_) => return 0,
-        Kind::Negotiation(_, _) => return 0,
-        Kind::Subnegotiation(_) => {
-            let size = octets_part::clipped(count, PAYLOAD_LIMIT);
-            octets::put(&kept[0..size], room, at);
-            return size;
-        }
+        Some(Kind::Data | Kind::Subnegotiation(_)) => count.min(PAYLOAD_LIMIT),
+        _ => 0,
     }
 }
 
 // A call that takes nothing.
-fn idle(reader: Reader, number: u8) -> Taken
-    ensures { result ≡ taken reader number 0 0 NoEvent 0 }
+fn idle(reader: Reader, refusal: Refusal) -> Taken
+    ensures { result ≡ taken reader (Some refusal) 0 0 None 0 }
 {
     Taken {
         reader,
-        number,
+        refusal: Some(refusal),
         taken: 0,
         length: 0,
-        kind: Kind::Data,
+        kind: None,
         payload: 0,
     }
 }
@@ -64,7 +56,8 @@ pub fn reset(_reader: Reader) -> Reader
 
 // Takes a fragment, up to the first command or subnegotiation that is completed, to its end, or 1,024 bytes of it. The
 // data before goes to the front of the room, and a payload right after it. Room under 2,048 bytes is 4, before
-// anything else. A fault is answered by its number, 2, 3 or 6, now and by every later call.
+// anything else. A fault is answered, 2, 3 or 6, now and by every later call; it is no `Err`, since the data before it
+// is given too.
 pub fn feed(
     reader: Reader,
     kept: &mut [u8; PAYLOAD_LIMIT],
@@ -74,27 +67,28 @@ pub fn feed(
     ensures { Fed reader kept.old fragment.now room.old result kept.new room.new }
 {
     if room.len() < ROOM {
-        return idle(reader, refusal::NO_ROOM);
+        return idle(reader, Refusal::NoRoom);
     }
-    let stage = reader.stage;
-    let fault = telnet_stage::number_of(stage);
-    if fault != 0 {
+    if let Some(fault) = telnet_stage::fault_of(reader.stage) {
         return idle(reader, fault);
     }
-    let end = octets_part::clipped(fragment.len(), CALL_LIMIT);
-    let run = telnet_pass::pass(stage, reader.count, kept, &fragment[0..end], room);
-    let length = run.length;
-    let kind = run.kind;
-    let count = run.count;
-    let payload = put_payload(kind, count, kept, room, length);
-    let next = run.stage;
+    let end = fragment.len().min(CALL_LIMIT);
+    let Run {
+        stage,
+        count,
+        taken,
+        length,
+        kind,
+    } = telnet_pass::pass(reader.stage, reader.count, kept, &fragment[..end], room);
+    let payload = payload_length(kind, count);
+    octets::put(&kept[..payload], room, length);
     Taken {
         reader: Reader {
-            stage: next,
-            count: telnet_stage::held_count(next, count),
+            stage,
+            count: telnet_stage::held_count(stage, count),
         },
-        number: telnet_stage::number_of(next),
-        taken: run.taken,
+        refusal: telnet_stage::fault_of(stage),
+        taken,
         length,
         kind,
         payload,
@@ -103,17 +97,13 @@ pub fn feed(
 
 // The end of the stream: end where the reader is at rest, 1 where it is waiting, and the number of its fault. The
 // reader is the caller's as it was.
-pub fn close(reader: Reader) -> Closed
+#[tactic(auto, unfolding(telnet_fragments::specs::Promise::close_of, telnet_fragments::specs::Promise::closes, telnet_fragments::specs::Promise::standing, telnet::specs::Whole::stops))]
+pub fn close(reader: Reader) -> Result<(), Refusal>
     ensures { ClosedAs reader result }
 {
-    let stage = reader.stage;
-    match stage {
-        Stage::Data => Closed::End,
-        Stage::IacSeen => Closed::Number(refusal::CUT_SHORT),
-        Stage::Choosing(_) => Closed::Number(refusal::CUT_SHORT),
-        Stage::Opening => Closed::Number(refusal::CUT_SHORT),
-        Stage::Payload(_) => Closed::Number(refusal::CUT_SHORT),
-        Stage::Closing(_) => Closed::Number(refusal::CUT_SHORT),
-        Stage::Failed(_) => Closed::Number(telnet_stage::number_of(stage)),
+    match reader.stage {
+        Stage::Data => Ok(()),
+        Stage::Failed(fault) => Err(fault.into()),
+        _ => Err(Refusal::CutShort),
     }
 }

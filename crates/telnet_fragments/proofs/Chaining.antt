@@ -1,9 +1,8 @@
 -- The calls as the code answers them are the calls of the definition (`told`), and so take the stream
 -- (`takes-the-stream`) and end in its mode (`ends-in-its-mode`). Assumes nothing.
-use Rattle.std.specs.Prelude.{if◌then◌else◌}
+use Rattle.std.specs.Prelude.{if◌then◌else◌, None, Some}
 use mathlib.Core.Path.{◌≡◌, refl, sym, ap, ◌∙◌}
 use mathlib.Core.Bool.{Bool, true, false}
-use mathlib.Core.Logic.{inl, inr}
 use mathlib.Core.List.{List, [], ◌∷◌, ◌++◌, append_assoc}
 use Prim.Native.Nat.{ℕ, ◌+◌, ◌≤◌}
 use native.Mathlib.Omega.{arith}
@@ -11,16 +10,13 @@ use lib.Dec.{ltb}
 use lib.ListN.{length, take, drop, length-take}
 use lib.Seq.{take-take, take-add, take-append_seam, drop-append_seam}
 use borrow.Author.Tests.{le-ltb}
-use Rattle.telnet.specs.declared.Kind.TheVariants.{Data as NoEvent}
 use Rattle.telnet.specs.Event.{Event, run, command, negotiation, subnegotiation}
-use Rattle.telnet.specs.Whole.{Mode, failed, Reading, ended, reads, before, reading_from, reading, stops}
-use Rattle.telnet_fragments.specs.declared.Fault.{Fault}
-use Rattle.telnet_fragments.specs.declared.Fault.TheVariants.{Undoubled, TooLong, BadCommand}
+use Rattle.telnet.specs.Whole.{Mode, Reading, ended, reads, before, reading_from, reading, stops}
 use Rattle.telnet_fragments.specs.declared.Stage.{Stage}
 use Rattle.telnet_fragments.specs.declared.Stage.TheVariants.{Data, IacSeen, Choosing, Opening, Payload, Closing, Failed}
 use Rattle.telnet_fragments.specs.declared.Reader.{Reader}
-use Rattle.telnet_fragments.specs.Call.{Call, idle, rested, called, number_of}
-use Rattle.telnet_fragments.specs.Promise.{fault_number, happened, standing, fresh_reader, Seen, sees, seen, mode_of, kind_of, carried_of, delivered, feed_of}
+use Rattle.telnet_fragments.specs.Call.{Call, idle, rested, called, refusal_of}
+use Rattle.telnet_fragments.specs.Promise.{happened, standing, fresh_reader, Seen, sees, seen, mode_of, kind_of, carried_of, delivered, feed_of}
 use Rattle.telnet_fragments.specs.Joined.{joins, joined}
 use Rattle.telnet_fragments.specs.Chain.{Made, Promised, found, left_in, gave, gave_all, took_all, last_reader, last_kept, Chain, none, next}
 use Rattle.telnet_fragments.specs.Theorems.{TakesTheStream, mode_after, EndsInItsMode}
@@ -28,7 +24,7 @@ use Rattle.telnet_fragments.proofs.Cuts.{in_front, after_call, called-within, ca
 use Rattle.telnet_fragments.proofs.Steps.{Reached, at-data, at-iac-seen, at-choosing, at-opening, at-payload, at-closing, at-failed, Single, reached-rested}
 use Rattle.octets.specs.Lent.{Outcome, outcome, overwrite}
 use Rattle.octets.proofs.Overwrite.{overwrite-front}
-use Rattle.refusal.specs.Refusal.{no_room}
+use Rattle.refusal.specs.declared.Refusal.TheVariants.{NoRoom}
 
 event-back : (es : List Event) → Single es → happened (kind_of es) (carried_of es) ≡ es
 unfolding happened kind_of carried_of
@@ -38,12 +34,7 @@ event-back (command c ∷ es) h = rw h
 event-back (negotiation v o ∷ es) h = rw h
 event-back (subnegotiation o p ∷ es) h = rw h
 
-fault-reached : (f : Fault) → Reached (failed (fault_number f))
-fault-reached Undoubled = at-failed (inl refl)
-fault-reached TooLong = at-failed (inr (inl refl))
-fault-reached BadCommand = at-failed (inr (inr refl))
-
--- whatever a reader is, its mode has no run, or failed by 2, 3 or 6
+-- whatever a reader is, its mode has no run, or failed by a fault
 standing-reached : (s : Stage) (n : ℕ) (kept : List ℕ) → Reached (standing s n kept)
 unfolding standing
 standing-reached Data n kept = at-data
@@ -52,7 +43,7 @@ standing-reached (Choosing v) n kept = at-choosing
 standing-reached Opening n kept = at-opening
 standing-reached (Payload o) n kept = at-payload
 standing-reached (Closing o) n kept = at-closing
-standing-reached (Failed f) n kept = fault-reached f
+standing-reached (Failed f) n kept = at-failed (f, refl)
 
 pub always-reached : (r : Reader) (kept : List ℕ) → Reached (mode_of r kept)
 always-reached r kept = standing-reached r.stage r.count kept
@@ -70,7 +61,7 @@ pub record Told (c : Made) (is : Call) : Type 0 where
   pub taken_is : c.answer.taken ≡ is.taken
   pub mode-is : left_in c ≡ is.mode
   pub gave-is : gave c ≡ ended is.run ++ is.event
-  pub number_is : c.answer.number ≡ number_of is.mode
+  pub refusal_is : c.answer.refusal ≡ refusal_of is.mode
   pub kind-is : c.answer.kind ≡ kind_of is.event
   pub length-is : c.answer.length ≡ length is.run
   pub payload-is : c.answer.payload ≡ length (carried_of is.event)
@@ -91,7 +82,7 @@ delivered-told c q =
       taken_is = ap (λ (o : Outcome Seen). o.answer.taken) q;
       mode-is = ap (λ (o : Outcome Seen). o.answer.mode) q;
       gave-is = rw (l, k, p, r, b.0, b.1, event-back d.event s.1);
-      number_is = ap (λ (o : Outcome Seen). o.answer.number) q;
+      refusal_is = ap (λ (o : Outcome Seen). o.answer.refused) q;
       kind-is = k;
       length-is = l;
       payload-is = p;
@@ -113,12 +104,12 @@ record Did (c : Made) : Type 0 where
   pub mode-is : left_in c ≡ is.mode
   pub gave-is : gave c ≡ ended is.run ++ is.event
 
-refused_did : (c : Made) → outcome (seen c.answer c.keeps) c.left ≡ outcome (sees (found c) no_room 0 0 NoEvent 0) c.room → Did c
+refused_did : (c : Made) → outcome (seen c.answer c.keeps) c.left ≡ outcome (sees (found c) (Some NoRoom) 0 0 None 0) c.room → Did c
 unfolding gave happened ended joins mode_after
 refused_did c q =
     let h = always-reached c.reader c.kept in
     let l : c.answer.length ≡ 0 = ap (λ (o : Outcome Seen). o.answer.length) q in
-    let k : c.answer.kind ≡ NoEvent = ap (λ (o : Outcome Seen). o.answer.kind) q in
+    let k : c.answer.kind ≡ None = ap (λ (o : Outcome Seen). o.answer.kind) q in
     record {
       is = idle (found c);
       sound = (h, tt);
@@ -151,7 +142,7 @@ did c p = go (ltb (length c.room) 2048) p.0
   where
     go : (t : Bool)
         → outcome (seen c.answer c.keeps) c.left
-        ≡ (if t then outcome (sees (found c) no_room 0 0 NoEvent 0) c.room else delivered (called (found c) c.fragment) c.room)
+        ≡ (if t then outcome (sees (found c) (Some NoRoom) 0 0 None 0) c.room else delivered (called (found c) c.fragment) c.room)
         → Did c
     go true q = refused_did c q
     go false q = delivered-did c q

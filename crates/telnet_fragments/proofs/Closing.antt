@@ -1,13 +1,10 @@
 -- How calls stand and close, by how the whole reading ends (`closes-alike`), and that two cuts of one stream are alike
 -- (`however-cut`). Assumes nothing.
-use Rattle.std.specs.Prelude.{if◌then◌else◌}
 use mathlib.Core.Path.{◌≡◌, refl, sym, ap, ◌∙◌}
 use mathlib.Core.Bool.{true}
 use mathlib.Core.Logic.{◌↔◌}
 use mathlib.Core.List.{List, []}
-use Prim.Native.Nat.{ℕ, ◌<◌}
-use native.Mathlib.Omega.{arith}
-use lib.Dec.{eqb}
+use Prim.Native.Nat.{ℕ}
 use lib.ListN.{take}
 use Rattle.telnet.specs.Whole.{Mode, data', Ending, well, refusal, Reading, reading, stops}
 use Rattle.telnet_fragments.specs.declared.Fault.{Fault}
@@ -16,112 +13,108 @@ use Rattle.telnet_fragments.specs.declared.Stage.{Stage}
 use Rattle.telnet_fragments.specs.declared.Stage.TheVariants.{Data, IacSeen, Choosing, Opening, Payload, Closing, Failed}
 use Rattle.telnet_fragments.specs.declared.Reader.{Reader}
 use Rattle.telnet_fragments.specs.Call.{rested}
-use Rattle.telnet_fragments.specs.Promise.{fault_number, standing, mode_of, fresh_reader, feed_of, closes, close_of}
+use Rattle.telnet_fragments.specs.Promise.{fault_refusal, standing, mode_of, fresh_reader, feed_of, closes, close_of}
 use Rattle.telnet_fragments.specs.Chain.{Made, found, took_all, last_reader, last_kept, end_mode}
 use Rattle.telnet_fragments.specs.Theorems.{mode_after, is_waiting, ClosesAlike, HoweverCut, Follows}
 use Rattle.telnet_fragments.proofs.Chaining.{takes-the-stream, ends-in-its-mode}
-use Rattle.refusal.specs.Refusal.{cut_short}
+use Rattle.refusal.specs.declared.Refusal.TheVariants.{CutShort}
 
--- how a reader's mode ends: its number, 0 where it ends well
-abbrev pub number_in : Ending → ℕ
-number_in well = 0
-number_in (refusal n) = n
+-- how a reader's mode ends, by its stage
+abbrev stage_ending : Stage → Ending
+stage_ending Data = well
+stage_ending IacSeen = refusal CutShort
+stage_ending (Choosing v) = refusal CutShort
+stage_ending Opening = refusal CutShort
+stage_ending (Payload o) = refusal CutShort
+stage_ending (Closing o) = refusal CutShort
+stage_ending (Failed f) = refusal (fault_refusal f)
 
--- the same by its stage
-abbrev stage_number : Stage → ℕ
-stage_number Data = 0
-stage_number IacSeen = 1
-stage_number (Choosing v) = 1
-stage_number Opening = 1
-stage_number (Payload o) = 1
-stage_number (Closing o) = 1
-stage_number (Failed f) = fault_number f
-
-stage-number : (s : Stage) (n : ℕ) (kept : List ℕ) → number_in (stops (standing s n kept)).ending ≡ stage_number s
+stage-ends : (s : Stage) (n : ℕ) (kept : List ℕ) → (stops (standing s n kept)).ending ≡ stage_ending s
 unfolding stops standing
-stage-number Data n kept = refl
-stage-number IacSeen n kept = refl
-stage-number (Choosing v) n kept = refl
-stage-number Opening n kept = refl
-stage-number (Payload o) n kept = refl
-stage-number (Closing o) n kept = refl
-stage-number (Failed f) n kept = refl
+stage-ends Data n kept = refl
+stage-ends IacSeen n kept = refl
+stage-ends (Choosing v) n kept = refl
+stage-ends Opening n kept = refl
+stage-ends (Payload o) n kept = refl
+stage-ends (Closing o) n kept = refl
+stage-ends (Failed f) n kept = refl
 
-pub fault-above : (f : Fault) → 1 < fault_number f
-fault-above Undoubled = omega arith
-fault-above TooLong = omega arith
-fault-above BadCommand = omega arith
+-- a fault is no other refusal of a reader
+pub fault-not-cut : (f : Fault) → fault_refusal f ≡ CutShort → ⊥
+fault-not-cut Undoubled e = cc
+fault-not-cut TooLong e = cc
+fault-not-cut BadCommand e = cc
 
--- a fault by its number
-abbrev fault_numbered : ℕ → Fault
-fault_numbered n = if eqb n 2 then Undoubled else if eqb n 3 then TooLong else BadCommand
+fault-back : (f g : Fault) → fault_refusal f ≡ fault_refusal g → f ≡ g
+fault-back Undoubled Undoubled e = refl
+fault-back Undoubled TooLong e = cc
+fault-back Undoubled BadCommand e = cc
+fault-back TooLong Undoubled e = cc
+fault-back TooLong TooLong e = refl
+fault-back TooLong BadCommand e = cc
+fault-back BadCommand Undoubled e = cc
+fault-back BadCommand TooLong e = cc
+fault-back BadCommand BadCommand e = refl
 
-fault-back : (f : Fault) → fault_numbered (fault_number f) ≡ f
-fault-back Undoubled = refl
-fault-back TooLong = refl
-fault-back BadCommand = refl
+rest-stage : (s : Stage) → stage_ending s ≡ well → s ≡ Data
+rest-stage Data e = refl
+rest-stage IacSeen e = cc
+rest-stage (Choosing v) e = cc
+rest-stage Opening e = cc
+rest-stage (Payload o) e = cc
+rest-stage (Closing o) e = cc
+rest-stage (Failed f) e = cc
 
-rest-number : (s : Stage) → stage_number s ≡ 0 → s ≡ Data
-rest-number Data e = refl
-rest-number IacSeen e = absurd (omega arith)
-rest-number (Choosing v) e = absurd (omega arith)
-rest-number Opening e = absurd (omega arith)
-rest-number (Payload o) e = absurd (omega arith)
-rest-number (Closing o) e = absurd (omega arith)
-rest-number (Failed f) e = absurd (omega (arith, fault-above f, e))
-
-waiting-number : (s : Stage) → stage_number s ≡ 1 → is_waiting s ≡ true
+waiting-stage : (s : Stage) → stage_ending s ≡ refusal CutShort → is_waiting s ≡ true
 unfolding is_waiting
-waiting-number Data e = absurd (omega arith)
-waiting-number IacSeen e = refl
-waiting-number (Choosing v) e = refl
-waiting-number Opening e = refl
-waiting-number (Payload o) e = refl
-waiting-number (Closing o) e = refl
-waiting-number (Failed f) e = absurd (omega (arith, fault-above f, e))
+waiting-stage Data e = cc
+waiting-stage IacSeen e = refl
+waiting-stage (Choosing v) e = refl
+waiting-stage Opening e = refl
+waiting-stage (Payload o) e = refl
+waiting-stage (Closing o) e = refl
+waiting-stage (Failed f) e = absurd (fault-not-cut f cc)
 
-fault-stage : (s : Stage) (f : Fault) → stage_number s ≡ fault_number f → s ≡ Failed f
-fault-stage Data f e = absurd (omega (arith, fault-above f, e))
-fault-stage IacSeen f e = absurd (omega (arith, fault-above f, e))
-fault-stage (Choosing v) f e = absurd (omega (arith, fault-above f, e))
-fault-stage Opening f e = absurd (omega (arith, fault-above f, e))
-fault-stage (Payload o) f e = absurd (omega (arith, fault-above f, e))
-fault-stage (Closing o) f e = absurd (omega (arith, fault-above f, e))
-fault-stage (Failed g) f e = ap Failed (sym (fault-back g) ∙ ap fault_numbered e ∙ fault-back f)
+fault-stage : (s : Stage) (f : Fault) → stage_ending s ≡ refusal (fault_refusal f) → s ≡ Failed f
+fault-stage Data f e = cc
+fault-stage IacSeen f e = absurd (fault-not-cut f cc)
+fault-stage (Choosing v) f e = absurd (fault-not-cut f cc)
+fault-stage Opening f e = absurd (fault-not-cut f cc)
+fault-stage (Payload o) f e = absurd (fault-not-cut f cc)
+fault-stage (Closing o) f e = absurd (fault-not-cut f cc)
+fault-stage (Failed g) f e = ap Failed (fault-back g f cc)
 
-waiting-ends : (s : Stage) (n : ℕ) (kept : List ℕ) → is_waiting s ≡ true → (stops (standing s n kept)).ending ≡ refusal cut_short
-unfolding stops standing is_waiting
-waiting-ends Data n kept e = cc
-waiting-ends IacSeen n kept e = refl
-waiting-ends (Choosing v) n kept e = refl
-waiting-ends Opening n kept e = refl
-waiting-ends (Payload o) n kept e = refl
-waiting-ends (Closing o) n kept e = refl
-waiting-ends (Failed f) n kept e = cc
+waiting-ends : (s : Stage) → is_waiting s ≡ true → stage_ending s ≡ refusal CutShort
+unfolding is_waiting
+waiting-ends Data e = cc
+waiting-ends IacSeen e = refl
+waiting-ends (Choosing v) e = refl
+waiting-ends Opening e = refl
+waiting-ends (Payload o) e = refl
+waiting-ends (Closing o) e = refl
+waiting-ends (Failed f) e = cc
 
 -- a reader whose mode ends as `how`
 module _ (r : Reader) (kept : List ℕ) (how : Ending) (is : (stops (mode_of r kept)).ending ≡ how) where
-  number_is : stage_number r.stage ≡ number_in how
-  number_is = sym (stage-number r.stage r.count kept) ∙ ap number_in is
+  ends-so : stage_ending r.stage ≡ how
+  ends-so = sym (stage-ends r.stage r.count kept) ∙ is
 
   rests : (r.stage ≡ Data) ↔ (how ≡ well)
-  unfolding stops standing
   rests = (
-    λ e. sym is ∙ ap (λ (s : Stage). (stops (standing s r.count kept)).ending) e,
-    λ e. rest-number r.stage (number_is ∙ ap number_in e),
+    λ e. sym ends-so ∙ ap stage_ending e,
+    λ e. rest-stage r.stage (ends-so ∙ e),
   )
 
-  waits : (is_waiting r.stage ≡ true) ↔ (how ≡ refusal cut_short)
+  waits : (is_waiting r.stage ≡ true) ↔ (how ≡ refusal CutShort)
   waits = (
-    λ e. sym is ∙ waiting-ends r.stage r.count kept e,
-    λ e. waiting-number r.stage (number_is ∙ ap number_in e),
+    λ e. sym ends-so ∙ waiting-ends r.stage e,
+    λ e. waiting-stage r.stage (ends-so ∙ e),
   )
 
-  fails : (f : Fault) → (r.stage ≡ Failed f) ↔ (how ≡ refusal (fault_number f))
-  unfolding stops standing
+  fails : (f : Fault) → (r.stage ≡ Failed f) ↔ (how ≡ refusal (fault_refusal f))
   fails f = (
-    λ e. sym is ∙ ap (λ (s : Stage). (stops (standing s r.count kept)).ending) e,
-    λ e. fault-stage r.stage f (number_is ∙ ap number_in e),
+    λ e. sym ends-so ∙ ap stage_ending e,
+    λ e. fault-stage r.stage f (ends-so ∙ e),
   )
 
 pub closes-alike : ClosesAlike

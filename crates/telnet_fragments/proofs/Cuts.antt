@@ -1,11 +1,11 @@
 -- A call and what is read after it are what is read at once (`called-read`), and what calls leave (`called-sound`,
 -- `called-mode`). Assumes nothing.
-use Rattle.std.specs.Prelude.{if◌then◌else◌}
+use Rattle.std.specs.Prelude.{if◌then◌else◌, None, Some}
 use mathlib.Core.Path.{◌≡◌, refl, sym, ap, ◌∙◌}
 use mathlib.Core.Bool.{Bool, true, false}
 use mathlib.Core.Logic.{◌⊎◌, inl, inr}
 use mathlib.Core.List.{List, [], ◌∷◌, ◌++◌, append-nil, append_assoc}
-use Prim.Native.Nat.{ℕ, suc, ◌+◌, ◌≤◌, ◌<◌}
+use Prim.Native.Nat.{ℕ, suc, ◌≤◌, ◌<◌}
 use native.Mathlib.Omega.{arith}
 use lib.Dec.{eqb, ltb}
 use lib.ListN.{length, take, length-take}
@@ -17,12 +17,15 @@ use Rattle.telnet.specs.Event.{Event, run, command, negotiation, subnegotiation,
 use Rattle.telnet.specs.Whole.{Mode, data', iac_seen, choosing, opening, payload, closing, failed, Step, step_byte, goes, ended, leads, grown, stops}
 use Rattle.telnet.specs.Whole.{Reading, reads, before, reading_from}
 use Rattle.telnet.proofs.Unroll.{stays-failed}
-use Rattle.telnet_fragments.specs.Call.{Call, run_of, rested, has_failed, ends, takes, given, called, call_limit, number_of}
+use Rattle.telnet_fragments.specs.Call.{Call, run_of, rested, has_failed, ends, takes, given, called, call_limit, refusal_of}
+use Rattle.telnet_fragments.specs.declared.Fault.{Fault}
+use Rattle.telnet_fragments.specs.Promise.{fault_refusal}
 use Rattle.telnet_fragments.specs.Joined.{joins, joined}
 use Rattle.telnet_fragments.specs.Theorems.{mode_after}
 use Rattle.telnet_fragments.proofs.Steps.{Reached, at-data, at-iac-seen, at-choosing, at-opening, at-payload, at-closing, at-failed, Single, step-fine, reached-rested}
 use Rattle.octets.proofs.Choice.{choice}
-use Rattle.refusal.specs.Refusal.{bad_command, undoubled as undoubled_iac, payload_too_long}
+use Rattle.refusal.specs.declared.Refusal.{Refusal}
+use Rattle.refusal.specs.declared.Refusal.TheVariants.{BadCommand, Undoubled, PayloadTooLong}
 
 -- data in front of a reading
 abbrev pub in_front : List ℕ → Reading → Reading
@@ -66,8 +69,8 @@ joins-break (d ∷ ds) (y ∷ ys) es h = refl
 abbrev Breaking : Reading → Type 0
 Breaking r = Breaks r.events
 
-failed-breaks : (n : ℕ) (bs : List ℕ) → Breaking (reading_from (failed n) bs)
-failed-breaks n bs = rw (stays-failed n bs) tt
+failed-breaks : (e : Refusal) (bs : List ℕ) → Breaking (reading_from (failed e) bs)
+failed-breaks e bs = rw (stays-failed e bs) tt
 
 mutual
   unfolding reading_from step_byte stops grown
@@ -79,7 +82,7 @@ mutual
       (λ _. closing-breaks bs o p)
       (λ _. choice (λ (s : Step). Breaking (before s.completes (reading_from s.mode bs))) (ltb (length p) payload_limit)
       (λ _. payload-breaks bs o (p ++ b ∷ []))
-      (λ _. failed-breaks payload_too_long bs))
+      (λ _. failed-breaks PayloadTooLong bs))
 
   closing-breaks : (bs : List ℕ) (o : ℕ) (p : List ℕ) → Breaking (reading_from (closing o p) bs)
   closing-breaks [] o p = tt
@@ -87,10 +90,10 @@ mutual
       choice (λ (s : Step). Breaking (before s.completes (reading_from s.mode bs))) (eqb b iac)
       (λ _. choice (λ (s : Step). Breaking (before s.completes (reading_from s.mode bs))) (ltb (length p) payload_limit)
       (λ _. payload-breaks bs o (p ++ b ∷ []))
-      (λ _. failed-breaks payload_too_long bs))
+      (λ _. failed-breaks PayloadTooLong bs))
       (λ _. choice (λ (s : Step). Breaking (before s.completes (reading_from s.mode bs))) (eqb b se)
       (λ _. tt)
-      (λ _. failed-breaks undoubled_iac bs))
+      (λ _. failed-breaks Undoubled bs))
 
 opening-breaks : (bs : List ℕ) → Breaking (reading_from opening bs)
 unfolding reading_from step_byte stops
@@ -107,7 +110,7 @@ led-carried : (l : Lead) (b : ℕ) (bs r x : List ℕ)
     → before (leads (ended (r ++ x)) l b).completes (reading_from (leads (ended (r ++ x)) l b).mode bs)
     ≡ in_front r (before (leads (ended x) l b).completes (reading_from (leads (ended x) l b).mode bs))
 unfolding leads
-led-carried Faulty b bs r x = rw (joins-break r x (reading_from (failed bad_command) bs).events (failed-breaks bad_command bs))
+led-carried Faulty b bs r x = rw (joins-break r x (reading_from (failed BadCommand) bs).events (failed-breaks BadCommand bs))
 led-carried Opens b bs r x = rw (joins-break r x (reading_from opening bs).events (opening-breaks bs))
 led-carried (Negotiates v) b bs r x = rw (joins-break r x (reading_from (choosing v) bs).events (choosing-breaks v bs))
 led-carried Simple b bs r x =
@@ -153,7 +156,7 @@ run-carried (choosing v) bs = refl
 run-carried opening bs = refl
 run-carried (payload o p) bs = refl
 run-carried (closing o p) bs = refl
-run-carried (failed n) bs = refl
+run-carried (failed e) bs = refl
 
 -- what a call gave, in front of what is read after it
 abbrev pub after_call : Call → List ℕ → Reading
@@ -249,7 +252,7 @@ step-rested (choosing v) b = refl
 step-rested opening b = refl
 step-rested (payload o p) b = refl
 step-rested (closing o p) b = refl
-step-rested (failed n) b = refl
+step-rested (failed e) b = refl
 
 rested-twice : (m : Mode) → rested (rested m) ≡ rested m
 unfolding rested
@@ -259,7 +262,7 @@ rested-twice (choosing v) = refl
 rested-twice opening = refl
 rested-twice (payload o p) = refl
 rested-twice (closing o p) = refl
-rested-twice (failed n) = refl
+rested-twice (failed e) = refl
 
 pub mode-after-rested : (bs : List ℕ) (m : Mode) → rested (mode_after (rested m) bs) ≡ rested (mode_after m bs)
 unfolding mode_after
@@ -320,15 +323,15 @@ nothing-kept at-payload = refl
 nothing-kept at-closing = refl
 nothing-kept (at-failed h) = refl
 
-pub numbered : {m : Mode} → Reached m → (number_of m ≡ 0) ⊎ (number_of m ≡ 2) ⊎ (number_of m ≡ 3) ⊎ (number_of m ≡ 6)
-unfolding number_of
-numbered at-data = inl refl
-numbered at-iac-seen = inl refl
-numbered at-choosing = inl refl
-numbered at-opening = inl refl
-numbered at-payload = inl refl
-numbered at-closing = inl refl
-numbered (at-failed h) = inr h
+pub refused-by-fault : {m : Mode} → Reached m → (refusal_of m ≡ None) ⊎ ((f : Fault) × (refusal_of m ≡ Some (fault_refusal f)))
+unfolding refusal_of
+refused-by-fault at-data = inl refl
+refused-by-fault at-iac-seen = inl refl
+refused-by-fault at-choosing = inl refl
+refused-by-fault at-opening = inl refl
+refused-by-fault at-payload = inl refl
+refused-by-fault at-closing = inl refl
+refused-by-fault (at-failed h) = inr (h.0, ap Some h.1)
 
 -- a call that is given a byte takes one
 pub takes-some-of : (m : Mode) (bs : List ℕ) → has_failed m ≡ false → 0 < length bs → 0 < (called m bs).taken

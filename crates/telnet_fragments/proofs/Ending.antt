@@ -1,16 +1,15 @@
 -- Where a call ends and what it gives (`ends_there`, `takes-some`), its number (`numbers-given`), and that refused and
 -- faulted calls change nothing (`stays-as-it-was`). Assumes nothing.
+use Rattle.std.specs.Prelude.{Option, None, Some}
 use mathlib.Core.Path.{◌≡◌, refl, sym, ap, subst, ◌∙◌}
-use mathlib.Core.Bool.{Bool, true, false}
+use mathlib.Core.Bool.{true, false}
 use mathlib.Core.Logic.{◌↔◌, ◌⊎◌, inl, inr, ⊎_elim}
 use mathlib.Core.List.{List, [], ◌∷◌, ◌++◌, append-nil}
-use Prim.Native.Nat.{ℕ, zero, suc, ◌+◌, ◌≤◌, ◌<◌, min}
+use Prim.Native.Nat.{ℕ, zero, suc, ◌≤◌, ◌<◌, min}
 use native.Mathlib.Omega.{arith}
 use lib.ListN.{length, take, length-take, length-append}
 use lib.Seq.{take-take, take_all}
 use borrow.Author.Tests.{lt-ltb, le-ltb}
-use Rattle.telnet.specs.declared.Kind.{Kind}
-use Rattle.telnet.specs.declared.Kind.TheVariants.{Data as NoEvent, Command, Negotiation, Subnegotiation}
 use Rattle.telnet.specs.Event.{Event, run, command, negotiation, subnegotiation, payload_limit}
 use Rattle.telnet.specs.Whole.{Mode, data', iac_seen, choosing, opening, payload, closing, failed, refusal}
 use Rattle.telnet.specs.Whole.{step_byte, ended, Reading, reads, reading_from, stops}
@@ -18,20 +17,21 @@ use Rattle.telnet_fragments.specs.declared.Fault.{Fault}
 use Rattle.telnet_fragments.specs.declared.Fault.TheVariants.{Undoubled, TooLong, BadCommand}
 use Rattle.telnet_fragments.specs.declared.Stage.{Stage}
 use Rattle.telnet_fragments.specs.declared.Stage.TheVariants.{Data, IacSeen, Choosing, Opening, Payload, Closing, Failed}
-use Rattle.telnet_fragments.specs.Call.{Call, call, run_of, has_failed, ends, takes, given, onward, rested, called, call_limit, number_of}
-use Rattle.telnet_fragments.specs.Promise.{fault_number, standing, Seen, sees, seen, kind_of, carried_of, delivered, feed_of, is_idle}
+use Rattle.telnet_fragments.specs.Call.{Call, call, run_of, has_failed, ends, takes, given, onward, rested, called, call_limit, refusal_of}
+use Rattle.telnet_fragments.specs.Promise.{fault_refusal, standing, Seen, sees, seen, kind_of, carried_of, delivered, feed_of, is_idle}
 use Rattle.telnet_fragments.specs.Joined.{joins}
 use Rattle.telnet_fragments.specs.Chain.{Made, found, left_in, gave}
 use Rattle.telnet_fragments.specs.Theorems.{only_data, is_fault, Unbroken, EndsThere, TakesSome, NumbersGiven, Idle, StaysAsItWas}
-use Rattle.telnet_fragments.proofs.Steps.{is_one, Within, step-fine, Reached, at-data, at-iac-seen, at-choosing, at-opening, at-payload, at-closing, at-failed, Single}
-use Rattle.telnet_fragments.proofs.Cuts.{given-read, given-within, given-sound, called-sound, called-read, nothing-kept, numbered, takes-some-of}
+use Rattle.telnet_fragments.proofs.Steps.{is_one, Within, step-fine, Reached, Single}
+use Rattle.telnet_fragments.proofs.Cuts.{given-read, given-within, given-sound, called-sound, called-read, nothing-kept, refused-by-fault, takes-some-of}
 use Rattle.telnet_fragments.proofs.Chaining.{always-reached, Told, told}
-use Rattle.telnet_fragments.proofs.Closing.{fault-above, number_in}
+use Rattle.telnet_fragments.proofs.Closing.{fault-not-cut}
 use Rattle.octets.specs.Lent.{Outcome, outcome}
 use Rattle.octets.proofs.Choice.{choice, choice₂, never}
 use Rattle.octets.proofs.Order.{below-or-above}
 use Rattle.octets.proofs.Overwrite.{overwrite-nil}
-use Rattle.refusal.specs.Refusal.{no_room}
+use Rattle.refusal.specs.declared.Refusal.{Refusal}
+use Rattle.refusal.specs.declared.Refusal.TheVariants.{NoRoom}
 
 rested-fails : (m : Mode) → has_failed (rested m) ≡ has_failed m
 unfolding rested has_failed
@@ -41,7 +41,7 @@ rested-fails (choosing v) = refl
 rested-fails opening = refl
 rested-fails (payload o p) = refl
 rested-fails (closing o p) = refl
-rested-fails (failed n) = refl
+rested-fails (failed e) = refl
 
 -- what does not end a call has not failed
 unended : (es : List Event) (m : Mode) → ends es m ≡ false → has_failed (rested m) ≡ false
@@ -114,7 +114,7 @@ unfailed-ends (choosing v) e = refl
 unfailed-ends opening e = refl
 unfailed-ends (payload o p) e = refl
 unfailed-ends (closing o p) e = refl
-unfailed-ends (failed n) e = never (sym e)
+unfailed-ends (failed why) e = never (sym e)
 
 nothing-unbroken : (bs : List ℕ) {m : Mode} → Reached m → has_failed m ≡ false → Nothing (given m bs) → Unbroken (reading_from m bs)
 unfolding reading_from
@@ -149,35 +149,29 @@ gives-read c t =
     ∙ sym (called-read (found c) c.fragment [])
     ∙ ap (reading_from (found c)) (append-nil (take d.taken c.fragment) ∙ ap (λ n. take n c.fragment) (sym t.taken_is))
 
-abbrev is_none : Kind → Bool
-is_none NoEvent = true
-is_none (Command c) = false
-is_none (Negotiation v o) = false
-is_none (Subnegotiation o) = false
-
-one-kind : (es : List Event) → is_one es ≡ true → kind_of es ≡ NoEvent → ⊥
+one-kind : (es : List Event) → is_one es ≡ true → kind_of es ≡ None → ⊥
 unfolding kind_of
 one-kind [] e k = never e
 one-kind (e ∷ f ∷ es) h k = never h
 one-kind (run d ∷ []) e k = never e
-one-kind (command c ∷ []) e k = never (ap is_none k)
-one-kind (negotiation v o ∷ []) e k = never (ap is_none k)
-one-kind (subnegotiation o p ∷ []) e k = never (ap is_none k)
+one-kind (command c ∷ []) e k = cc
+one-kind (negotiation v o ∷ []) e k = cc
+one-kind (subnegotiation o p ∷ []) e k = cc
 
-failed-number : {m : Mode} → Reached m → has_failed m ≡ true → 1 < number_of m
-unfolding has_failed number_of
-failed-number at-data e = never e
-failed-number at-iac-seen e = never e
-failed-number at-choosing e = never e
-failed-number at-opening e = never e
-failed-number at-payload e = never e
-failed-number at-closing e = never e
-failed-number (at-failed h) e = ⊎_elim (λ k. omega (arith, k)) (λ x. ⊎_elim (λ k. omega (arith, k)) (λ k. omega (arith, k)) x) h
+failed-refused : (m : Mode) → has_failed m ≡ true → refusal_of m ≡ None → ⊥
+unfolding has_failed refusal_of
+failed-refused (data' r) e n = never e
+failed-refused (iac_seen r) e n = never e
+failed-refused (choosing v) e n = never e
+failed-refused opening e n = never e
+failed-refused (payload o p) e n = never e
+failed-refused (closing o p) e n = never e
+failed-refused (failed why) e n = cc
 
-went-limit : (bs : List ℕ) (c : Call) → Reached c.mode → Went bs c → kind_of c.event ≡ NoEvent → number_of c.mode ≡ 0 → c.taken ≡ length bs
-went-limit bs c h (at-event e f) k n = absurd (one-kind c.event e k)
-went-limit bs c h (at-fault e f) k n = absurd (omega (arith, failed-number h f, n))
-went-limit bs c h (at-end e f l) k n = l
+went-limit : (bs : List ℕ) (c : Call) → Went bs c → kind_of c.event ≡ None → refusal_of c.mode ≡ None → c.taken ≡ length bs
+went-limit bs c (at-event e f) k n = absurd (one-kind c.event e k)
+went-limit bs c (at-fault e f) k n = absurd (failed-refused c.mode f n)
+went-limit bs c (at-end e f l) k n = l
 
 -- no more data than bytes taken
 given-run : (bs : List ℕ) {m : Mode} → Reached m → length (given m bs).run ≤ (given m bs).taken
@@ -229,7 +223,7 @@ ends_there c p room f long =
           let none : Nothing (given m (take n c.fragment)) = rw (take-take n call_limit c.fragment small) at (given-first n cut h f l') in
           nothing-unbroken (take n c.fragment) h f none;
       limit = λ e n.
-          t.taken_is ∙ went-limit cut k sound.0 (given-went cut h f) (sym t.kind-is ∙ e) (sym t.number_is ∙ n) ∙ size;
+          t.taken_is ∙ went-limit cut k (given-went cut h f) (sym t.kind-is ∙ e) (sym t.refusal_is ∙ n) ∙ size;
       within = omega (arith, t.taken_is, w, size);
       fits = omega (arith, t.length-is, t.payload-is, given-run cut h, w, length-take call_limit c.fragment, given-modest cut h (standing-within c.reader.stage c.reader.count c.kept long));
     }
@@ -237,45 +231,39 @@ ends_there c p room f long =
 pub takes-some : TakesSome
 takes-some c p room f l = omega (arith, (told c p room).taken_is, takes-some-of (found c) c.fragment f l)
 
--- the number of a mode, and how it ends
-fault-ends : (m : Mode) (f : Fault) → (number_of m ≡ fault_number f) ↔ ((stops m).ending ≡ refusal (fault_number f))
-unfolding number_of stops
-fault-ends (data' r) f = (λ e. absurd (omega (arith, fault-above f, e)), λ e. ap number_in e)
-fault-ends (iac_seen r) f = (λ e. absurd (omega (arith, fault-above f, e)), λ e. absurd (omega (arith, fault-above f, ap number_in e)))
-fault-ends (choosing v) f = (λ e. absurd (omega (arith, fault-above f, e)), λ e. absurd (omega (arith, fault-above f, ap number_in e)))
-fault-ends opening f = (λ e. absurd (omega (arith, fault-above f, e)), λ e. absurd (omega (arith, fault-above f, ap number_in e)))
-fault-ends (payload o p) f = (λ e. absurd (omega (arith, fault-above f, e)), λ e. absurd (omega (arith, fault-above f, ap number_in e)))
-fault-ends (closing o p) f = (λ e. absurd (omega (arith, fault-above f, e)), λ e. absurd (omega (arith, fault-above f, ap number_in e)))
-fault-ends (failed n) f = (λ e. ap refusal e, λ e. ap number_in e)
+-- what a mode failed by, and how it ends
+fault-ends : (m : Mode) (f : Fault) → (refusal_of m ≡ Some (fault_refusal f)) ↔ ((stops m).ending ≡ refusal (fault_refusal f))
+unfolding refusal_of stops
+fault-ends (data' r) f = (λ e. cc, λ e. cc)
+fault-ends (iac_seen r) f = (λ e. cc, λ e. absurd (fault-not-cut f cc))
+fault-ends (choosing v) f = (λ e. cc, λ e. absurd (fault-not-cut f cc))
+fault-ends opening f = (λ e. cc, λ e. absurd (fault-not-cut f cc))
+fault-ends (payload o p) f = (λ e. cc, λ e. absurd (fault-not-cut f cc))
+fault-ends (closing o p) f = (λ e. cc, λ e. absurd (fault-not-cut f cc))
+fault-ends (failed why) f = (λ e. cc, λ e. cc)
 
-went-silent : (bs : List ℕ) (c : Call) → Went bs c → has_failed c.mode ≡ true → kind_of c.event ≡ NoEvent
+went-silent : (bs : List ℕ) (c : Call) → Went bs c → has_failed c.mode ≡ true → kind_of c.event ≡ None
 unfolding kind_of
 went-silent bs c (at-event e f) g = never (sym f ∙ g)
 went-silent bs c (at-fault e f) g = ap kind_of e
 went-silent bs c (at-end e f l) g = ap kind_of e
 
-called-silent : (m : Mode) (bs : List ℕ) → Reached m → has_failed (called m bs).mode ≡ true → kind_of (called m bs).event ≡ NoEvent
+called-silent : (m : Mode) (bs : List ℕ) → Reached m → has_failed (called m bs).mode ≡ true → kind_of (called m bs).event ≡ None
 unfolding called kind_of
 called-silent m bs h =
-    choice (λ (k : Call). has_failed k.mode ≡ true → kind_of k.event ≡ NoEvent) (has_failed m)
+    choice (λ (k : Call). has_failed k.mode ≡ true → kind_of k.event ≡ None) (has_failed m)
     (λ _ _. refl)
     (λ f g. went-silent (take call_limit bs) (given m (take call_limit bs)) (given-went (take call_limit bs) h f) g)
 
-numbered-failed : (m : Mode) → 1 < number_of m → has_failed m ≡ true
-unfolding number_of has_failed
-numbered-failed (data' r) l = absurd (omega arith)
-numbered-failed (iac_seen r) l = absurd (omega arith)
-numbered-failed (choosing v) l = absurd (omega arith)
-numbered-failed opening l = absurd (omega arith)
-numbered-failed (payload o p) l = absurd (omega arith)
-numbered-failed (closing o p) l = absurd (omega arith)
-numbered-failed (failed n) l = refl
-
--- a number of the list is a fault's
-of-fault : {n : ℕ} → (n ≡ 2) ⊎ (n ≡ 3) ⊎ (n ≡ 6) → (f : Fault) × (n ≡ fault_number f)
-of-fault (inl e) = (Undoubled, e)
-of-fault (inr (inl e)) = (TooLong, e)
-of-fault (inr (inr e)) = (BadCommand, e)
+refused-failed : (m : Mode) (why : Refusal) → refusal_of m ≡ Some why → has_failed m ≡ true
+unfolding refusal_of has_failed
+refused-failed (data' r) why e = cc
+refused-failed (iac_seen r) why e = cc
+refused-failed (choosing v) why e = cc
+refused-failed opening why e = cc
+refused-failed (payload o p) why e = cc
+refused-failed (closing o p) why e = cc
+refused-failed (failed other) why e = refl
 
 pub numbers-given : NumbersGiven
 unfolding feed_of
@@ -283,45 +271,43 @@ numbers-given c p =
     let d = called (found c) c.fragment in
     let h = always-reached c.reader c.kept in
     let sound = called-sound c.fragment h in
-    let enough : 2048 ≤ length c.room → (c.answer.number ≡ 0) ⊎ (((f : Fault) × (c.answer.number ≡ fault_number f)) × (c.answer.kind ≡ NoEvent)) =
+    let enough : 2048 ≤ length c.room → (c.answer.refusal ≡ None) ⊎ (((f : Fault) × (c.answer.refusal ≡ Some (fault_refusal f))) × (c.answer.kind ≡ None)) =
     λ l.
     let t = told c p l in
-    ⊎_elim (λ z. inl (t.number_is ∙ z))
-    (λ x.
-    let f = of-fault x in
-    inr ((f.0, t.number_is ∙ f.1), t.kind-is ∙ called-silent (found c) c.fragment h (numbered-failed d.mode (omega (arith, f.1, fault-above f.0)))))
-    (numbered sound.0) in
+    ⊎_elim (λ z. inl (t.refusal_is ∙ z))
+    (λ x. inr ((x.0, t.refusal_is ∙ x.1), t.kind-is ∙ called-silent (found c) c.fragment h (refused-failed d.mode (fault_refusal x.0) x.1)))
+    (refused-by-fault sound.0) in
     record {
       short = (
         λ e. ⊎_elim (λ l. l) (λ l. absurd (not-four (enough l) e)) (below-or-above (length c.room) 2048),
-        λ l. rw (lt-ltb (length c.room) 2048 l) at (ap (λ (o : Outcome Seen). o.answer.number) p.0),
+        λ l. rw (lt-ltb (length c.room) 2048 l) at (ap (λ (o : Outcome Seen). o.answer.refused) p.0),
       );
       fault = λ l f.
           let t = told c p l in
           let way = fault-ends d.mode f in
           let is : (reading_from (found c) (take c.answer.taken c.fragment)).ending ≡ (stops d.mode).ending =
           sym (ap (λ (r : Reading). r.ending) (gives-read c t)) ∙ ap (λ (m : Mode). (stops m).ending) t.mode-is in
-          (λ e. is ∙ way.0 (sym t.number_is ∙ e), λ e. t.number_is ∙ way.1 (sym is ∙ e));
+          (λ e. is ∙ way.0 (sym t.refusal_is ∙ e), λ e. t.refusal_is ∙ way.1 (sym is ∙ e));
       enough = enough;
     }
   where
-    four : (f : Fault) → ◌≡◌ {A = ℕ} (fault_number f) 4 → ⊥
-    four Undoubled e = omega arith
-    four TooLong e = omega arith
-    four BadCommand e = omega arith
+    four : (f : Fault) → fault_refusal f ≡ NoRoom → ⊥
+    four Undoubled e = cc
+    four TooLong e = cc
+    four BadCommand e = cc
 
-    not-four : {n : ℕ} {A : Type 0} → (n ≡ 0) ⊎ (((f : Fault) × (n ≡ fault_number f)) × A) → n ≡ 4 → ⊥
-    not-four (inl z) e = omega (arith, z, e)
-    not-four (inr x) e = four x.0.0 (sym x.0.1 ∙ e)
+    not-four : {o : Option Refusal} {A : Type 0} → (o ≡ None) ⊎ (((f : Fault) × (o ≡ Some (fault_refusal f))) × A) → o ≡ Some NoRoom → ⊥
+    not-four (inl z) e = cc
+    not-four (inr x) e = four x.0.0 (cc x.0.1)
 
 -- an idle call, from its promise
-idle-told : (c : Made) (number : ℕ) → outcome (seen c.answer c.keeps) c.left ≡ outcome (sees (found c) number 0 0 NoEvent 0) c.room
-    → (c.answer.reader ≡ c.reader) × (c.keeps ≡ c.kept) → Idle c number
-idle-told c number q h =
+idle-told : (c : Made) (why : Option Refusal) → outcome (seen c.answer c.keeps) c.left ≡ outcome (sees (found c) why 0 0 None 0) c.room
+    → (c.answer.reader ≡ c.reader) × (c.keeps ≡ c.kept) → Idle c why
+idle-told c why q h =
     let a = c.answer in
-    let parts : a ≡ record { reader = a.reader; number = a.number; taken = a.taken; length = a.length; kind = a.kind; payload = a.payload } = refl in
+    let parts : a ≡ record { reader = a.reader; refusal = a.refusal; taken = a.taken; length = a.length; kind = a.kind; payload = a.payload } = refl in
     let reader = h.0 in
-    let n = ap (λ (o : Outcome Seen). o.answer.number) q in
+    let n = ap (λ (o : Outcome Seen). o.answer.refused) q in
     let t = ap (λ (o : Outcome Seen). o.answer.taken) q in
     let l = ap (λ (o : Outcome Seen). o.answer.length) q in
     let k = ap (λ (o : Outcome Seen). o.answer.kind) q in
@@ -333,18 +319,18 @@ idle-told c number q h =
     }
 
 pub stays-as-it-was : StaysAsItWas
-unfolding feed_of is_idle called delivered has_failed number_of kind_of carried_of standing
+unfolding feed_of is_idle called delivered has_failed refusal_of kind_of carried_of standing
 stays-as-it-was c p =
     record {
       refused = λ l.
           let e = lt-ltb (length c.room) 2048 l in
-          idle-told c no_room (rw e at p.0) (rw e at p.1);
+          idle-told c (Some NoRoom) (rw e at p.0) (rw e at p.1);
       faulted = λ l f e.
           let g = le-ltb (length c.room) 2048 l in
-          let m : found c ≡ failed (fault_number f) = ap (λ (s : Stage). standing s c.reader.count c.kept) e in
-          let q : outcome (seen c.answer c.keeps) c.left ≡ outcome (sees (failed (fault_number f)) (fault_number f) 0 0 NoEvent 0) c.room =
+          let m : found c ≡ failed (fault_refusal f) = ap (λ (s : Stage). standing s c.reader.count c.kept) e in
+          let q : outcome (seen c.answer c.keeps) c.left ≡ outcome (sees (failed (fault_refusal f)) (Some (fault_refusal f)) 0 0 None 0) c.room =
           rw (g, m, overwrite-nil c.room 0) at p.0 in
           let i : is_idle (found c) c.room ≡ true = rw (g, m) in
-          idle-told c (fault_number f) (q ∙ ap (λ (x : Mode). outcome (sees x (fault_number f) 0 0 NoEvent 0) c.room) (sym m))
+          idle-told c (Some (fault_refusal f)) (q ∙ ap (λ (x : Mode). outcome (sees x (Some (fault_refusal f)) 0 0 None 0) c.room) (sym m))
           (rw i at p.1);
     }

@@ -14,10 +14,13 @@ use Rattle.telnet.specs.declared.Lead.TheVariants.{Faulty, Opens, Negotiates, Si
 use Rattle.telnet.specs.Event.{Event, run, command, negotiation, subnegotiation, carried_bytes, lead, iac, se, payload_limit}
 use Rattle.telnet.specs.Whole.{Mode, data', iac_seen, choosing, opening, payload, closing, failed, Step, step_byte, goes, ended, leads, grown}
 use Rattle.telnet_fragments.specs.Call.{run_of, rested, has_failed, ends}
-use Rattle.telnet_fragments.specs.Promise.{carried_of}
+use Rattle.telnet_fragments.specs.declared.Fault.{Fault}
+use Rattle.telnet_fragments.specs.declared.Fault.TheVariants.{Undoubled, TooLong, BadCommand}
+use Rattle.telnet_fragments.specs.Promise.{fault_refusal, carried_of}
 use Rattle.octets.proofs.Choice.{choice, never}
+use Rattle.refusal.specs.declared.Refusal.{Refusal}
 
--- the modes that calls from a fresh reader leave: with no run, and failed by 2, 3 or 6 alone
+-- the modes that calls from a fresh reader leave: with no run, and failed by a fault alone
 pub data Reached : Mode → Type 0 where
   at-data : Reached (data' [])
   at-iac-seen : Reached (iac_seen [])
@@ -25,7 +28,7 @@ pub data Reached : Mode → Type 0 where
   at-opening : Reached opening
   at-payload : {o : ℕ} {p : List ℕ} → Reached (payload o p)
   at-closing : {o : ℕ} {p : List ℕ} → Reached (closing o p)
-  at-failed : {n : ℕ} → (n ≡ 2) ⊎ (n ≡ 3) ⊎ (n ≡ 6) → Reached (failed n)
+  at-failed : {e : Refusal} → (f : Fault) × (e ≡ fault_refusal f) → Reached (failed e)
 
 -- no event, or one that is no run
 abbrev pub Single : List Event → Type 0
@@ -52,7 +55,7 @@ Within (choosing v) = Unit {0}
 Within opening = Unit {0}
 Within (payload o p) = length p ≤ payload_limit
 Within (closing o p) = length p ≤ payload_limit
-Within (failed n) = Unit {0}
+Within (failed e) = Unit {0}
 
 -- a mode that calls leave has no run to give out
 pub reached-rested : {m : Mode} → Reached m → rested m ≡ m
@@ -130,11 +133,11 @@ unfolding grown
 grown-fine {w = w} o p b =
     choice (Fine w) (ltb (length p) payload_limit)
     (λ e. leads-to at-payload (λ _. omega (arith, length-append p (b ∷ []), ltb-true (length p) payload_limit e)))
-    (λ _. leads-to (at-failed (inr (inl refl))) (λ _. tt))
+    (λ _. leads-to (at-failed (TooLong, refl)) (λ _. tt))
 
 leads-fine : {w : Type 0} (l : Lead) (b : ℕ) → Fine w (leads [] l b)
 unfolding leads
-leads-fine Faulty b = leads-to (at-failed (inr (inr refl))) (λ _. tt)
+leads-fine Faulty b = leads-to (at-failed (BadCommand, refl)) (λ _. tt)
 leads-fine Opens b = leads-to at-opening (λ _. tt)
 leads-fine (Negotiates v) b = leads-to at-choosing (λ _. tt)
 leads-fine Simple b = completes-event (command b) refl refl (λ _. omega arith)
@@ -151,5 +154,5 @@ step-fine b (at-closing {o = o} {p = p}) =
     choice (Fine (length p ≤ payload_limit)) (eqb b iac) (λ _. grown-fine o p b)
     (λ _. choice (Fine (length p ≤ payload_limit)) (eqb b se)
     (λ _. completes-event (subnegotiation o p) refl refl (λ h. h))
-    (λ _. leads-to (at-failed (inl refl)) (λ _. tt)))
+    (λ _. leads-to (at-failed (Undoubled, refl)) (λ _. tt)))
 step-fine b (at-failed h) = leads-to (at-failed h) (λ _. tt)

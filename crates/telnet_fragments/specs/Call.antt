@@ -1,7 +1,8 @@
 -- One call of the reader that takes a stream by fragments (change request No. 2), said by the steps of the whole reading
 -- (`telnet`, `Whole.step_byte`). The reader gives its data out as it comes, so that between two bytes it is in a mode of
 -- the whole reading with no run.
-use Rattle.std.specs.Prelude.{ℕ, suc, Bool, true, false, List, [], ◌∷◌, ◌++◌, take, if◌then◌else◌}
+use Rattle.std.specs.Prelude.{ℕ, suc, Bool, true, false, List, [], ◌∷◌, ◌++◌, take, if◌then◌else◌, Option, None, Some}
+use Rattle.refusal.specs.declared.Refusal.{Refusal}
 use Rattle.telnet.specs.Event.{Event}
 use Rattle.telnet.specs.Whole.{Mode, data', iac_seen, choosing, opening, payload, closing, failed, step_byte}
 
@@ -13,7 +14,7 @@ run_of (choosing v) = []
 run_of opening = []
 run_of (payload o p) = []
 run_of (closing o p) = []
-run_of (failed n) = []
+run_of (failed e) = []
 
 -- the same mode, its run given out
 unfoldable pub rested : Mode → Mode
@@ -23,7 +24,7 @@ rested (choosing v) = choosing v
 rested opening = opening
 rested (payload o p) = payload o p
 rested (closing o p) = closing o p
-rested (failed n) = failed n
+rested (failed e) = failed e
 
 unfoldable pub has_failed : Mode → Bool
 has_failed (data' r) = false
@@ -32,7 +33,7 @@ has_failed (choosing v) = false
 has_failed opening = false
 has_failed (payload o p) = false
 has_failed (closing o p) = false
-has_failed (failed n) = true
+has_failed (failed e) = true
 
 -- what a call gives: its data, the command or subnegotiation that it ended at (none, or one), how many bytes it took,
 -- and the mode that it leaves
@@ -76,12 +77,12 @@ call_limit = 1024
 unfoldable pub called : Mode → List ℕ → Call
 called m bs = if has_failed m then idle m else given m (take call_limit bs)
 
--- the number of a mode: that of its fault, 0 where there is none
-unfoldable pub number_of : Mode → ℕ
-number_of (data' r) = 0
-number_of (iac_seen r) = 0
-number_of (choosing v) = 0
-number_of opening = 0
-number_of (payload o p) = 0
-number_of (closing o p) = 0
-number_of (failed n) = n
+-- what a mode failed by, if it has failed
+unfoldable pub refusal_of : Mode → Option Refusal
+refusal_of (data' r) = None
+refusal_of (iac_seen r) = None
+refusal_of (choosing v) = None
+refusal_of opening = None
+refusal_of (payload o p) = None
+refusal_of (closing o p) = None
+refusal_of (failed e) = Some e

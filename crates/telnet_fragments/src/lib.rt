@@ -1,8 +1,12 @@
 // A line's stream taken as it is delivered, by fragments: what one call gives, and what holds of every list of calls.
-// This crate has what is right, and no function: start with `specs/Call.antt`, then `specs/Promise.antt` and
-// `specs/Theorems.antt`. The code is in `telnet_feed`, over `telnet_pass` and `telnet_stage`.
+// This crate has what is right, and of code only which refusal a fault is: start with `specs/Call.antt`, then
+// `specs/Promise.antt` and `specs/Theorems.antt`. The code is in `telnet_feed`, over `telnet_pass` and `telnet_stage`.
 #![tactic(auto)]
 
+ghost use Rattle.std.specs.Prelude.{◌≡◌};
+ghost use Rattle.telnet_fragments.specs.Promise.{fault_refusal};
+
+use refusal::Refusal;
 use telnet::{Kind, Verb};
 
 // The most bytes of a fragment that a call takes, and the room that it is lent at least.
@@ -16,6 +20,18 @@ pub enum Fault {
     Undoubled,
     TooLong,
     BadCommand,
+}
+
+impl From<Fault> for Refusal {
+    ghost from_gives = { λ f e. e ≡ fault_refusal f };
+
+    fn from(fault: Fault) -> Refusal {
+        match fault {
+            Fault::Undoubled => Refusal::Undoubled,
+            Fault::TooLong => Refusal::PayloadTooLong,
+            Fault::BadCommand => Refusal::BadCommand,
+        }
+    }
 }
 
 // Where a reader is between two bytes.
@@ -37,22 +53,14 @@ pub struct Reader {
     pub count: usize,
 }
 
-// What a call gives: the reader to go on with; 0, or a number; how many bytes of the fragment it took; how many bytes
-// of data are at the front of the room; the event (Data where there is none); and how many payload bytes are right
-// after the data.
+// What a call gives: the reader to go on with; the refusal, if any; how many bytes of the fragment it took; how many
+// bytes of data are at the front of the room; the event, if any; and how many payload bytes are right after the data.
 #[derive(Clone, Copy)]
 pub struct Taken {
     pub reader: Reader,
-    pub number: u8,
+    pub refusal: Option<Refusal>,
     pub taken: usize,
     pub length: usize,
-    pub kind: Kind,
+    pub kind: Option<Kind>,
     pub payload: usize,
-}
-
-// What closing gives: the end, or a number, 1 where the reader is waiting.
-#[derive(Clone, Copy)]
-pub enum Closed {
-    End,
-    Number(u8),
 }

@@ -8,6 +8,7 @@ ghost use Rattle.telnet.specs.Event.{lead};
 use telnet::{DO, DONT, EOR, Lead, SB, SE, Verb, WILL, WONT};
 
 // What a byte after a 255 that is not doubled begins.
+#[tactic(auto, unfolding(telnet::specs::Event::lead))]
 pub fn lead_of(c: u8) -> Lead
     ensures { result ≡ lead c }
 {

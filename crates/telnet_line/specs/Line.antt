@@ -1,12 +1,12 @@
 -- The line of one event (specification, the end of "Worked lines of the line"): its place and what it is, or how the
 -- stream ended.
-use Rattle.std.specs.Prelude.{ℕ, List, ◌++◌, eqb, if◌then◌else◌}
+use Rattle.std.specs.Prelude.{ℕ, List, ◌++◌, eqb, if◌then◌else◌, None, Some, Ok, Err}
 use Rattle.telnet.specs.declared.Verb.{Verb}
 use Rattle.telnet.specs.declared.Verb.TheVariants.{Will, Wont, Do, Dont}
 use Rattle.telnet.specs.declared.Kind.{Kind}
 use Rattle.telnet.specs.declared.Kind.TheVariants.{Data, Command, Negotiation, Subnegotiation}
-use Rattle.telnet_reader.specs.declared.Answer.{Answer}
-use Rattle.telnet_reader.specs.declared.Answer.TheVariants.{End, Found, Refused}
+use Rattle.telnet_reader.specs.Promise.{Answer}
+use Rattle.refusal.specs.Refusal.{number}
 use Rattle.telnet.specs.Event.{eor}
 use Rattle.telnet.specs.Whole.{Ending, well, refusal}
 use Rattle.octets.specs.Ascii.{ascii}
@@ -38,13 +38,13 @@ text (Subnegotiation o) n = said (said (ascii "SUB") o) n
 -- END; REFUSED n
 unfoldable pub ending_text : Ending → List ℕ
 ending_text well = ascii "END"
-ending_text (refusal n) = said (ascii "REFUSED") n
+ending_text (refusal why) = said (ascii "REFUSED") (number why)
 
 -- what is at a place, as the reader answers it
 unfoldable pub answer_text : Answer → List ℕ
-answer_text End = ending_text well
-answer_text (Found k n next) = text k n
-answer_text (Refused n) = ending_text (refusal n)
+answer_text (Ok None) = ending_text well
+answer_text (Ok (Some found)) = text found.kind found.length
+answer_text (Err why) = ending_text (refusal why)
 
 -- a place, a blank, the text, a line end
 unfoldable pub line : ℕ → List ℕ → List ℕ

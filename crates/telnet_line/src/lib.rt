@@ -1,14 +1,14 @@
 // The line of one event: its place, and what it is. What is right is said in `specs/`: start with `Line.antt`.
 #![tactic(auto)]
 
-ghost use Rattle.std.specs.Prelude.{◌≡◌, replicate};
+ghost use Rattle.std.specs.Prelude.{◌≡◌};
 ghost use Rattle.octets.specs.Lent.{outcome};
 ghost use Rattle.telnet_line.specs.Line.{answer_text, line as line_of};
 ghost use Rattle.telnet_line.specs.Promise.{text_of_line};
 ghost use Rattle.refusal.specs.Written.{written_into};
 
-use refusal::Written;
-use telnet_reader::Answer;
+use refusal::Refusal;
+use telnet_reader::Found;
 
 mod words;
 
@@ -19,32 +19,30 @@ pub struct LineText {
     pub length: usize,
 }
 
-fn zeros() -> [u8; 67]
-    ensures { result ≡ replicate 67 0 }
-{
-    [0u8; 67]
-}
-
 // The line of what is at a place.
-pub fn line_text(place: usize, answer: Answer) -> LineText
+pub fn line_text(place: usize, answer: Result<Option<Found>, Refusal>) -> LineText
     ensures { result ≡ text_of_line (line_of place (answer_text answer)) }
 {
     let phrase = words::answer_phrase(answer);
-    let mut bytes = zeros();
+    let mut bytes = [0u8; 67];
     let length = words::compose(place, phrase, &mut bytes);
     LineText { bytes, length }
 }
 
 // The line of what is at a place, put to the front of the buffer.
-pub fn line(place: usize, answer: Answer, out: &mut [u8]) -> Written
+pub fn line(
+    place: usize,
+    answer: Result<Option<Found>, Refusal>,
+    out: &mut [u8],
+) -> Result<usize, Refusal>
     ensures { outcome result out.new ≡ written_into (line_of place (answer_text answer)) out.old }
 {
     let text = line_text(place, answer);
     let bytes = text.bytes;
     let n = text.length;
     if out.len() < n {
-        return Written::Refused(refusal::NO_ROOM);
+        return Err(Refusal::NoRoom);
     }
     octets::put(&bytes[0..n], out, 0);
-    Written::Wrote(n)
+    Ok(n)
 }

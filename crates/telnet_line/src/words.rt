@@ -4,154 +4,92 @@
 ghost use Rattle.std.specs.Prelude.{◌≡◌, ◌++◌, ◌+◌, ◌≤◌, length};
 ghost use Rattle.octets.specs.Ascii.{ascii};
 ghost use Rattle.octets.specs.Decimal.{decimal};
-ghost use Rattle.telnet_line.specs.Line.{verb_name, command_text, text, answer_text, line};
-ghost use Rattle.telnet_line.specs.Internal.Phrase.{spaced_if, most, word_text, phrase_text, alone, numbered, Short, IsWord, IsPhrase};
+ghost use Rattle.telnet_line.specs.Line.{said, verb_name, command_text, text, answer_text, line};
+ghost use Rattle.telnet_line.specs.Internal.Phrase.{spaced, most, phrase_text, Short, IsPhrase};
 ghost use Rattle.telnet_line.specs.Internal.Put.{Put};
 
+use refusal::Refusal;
 use telnet::{Kind, Verb};
-use telnet_reader::Answer;
-
-// A word with zeros after it, and its length.
-#[derive(Clone, Copy)]
-struct Word {
-    bytes: [u8; 7],
-    length: usize,
-}
+use telnet_reader::Found;
 
 // What a line says: a word, and up to two numbers after it.
 #[derive(Clone, Copy)]
 pub(crate) struct Phrase {
-    word: Word,
-    one: bool,
-    first: u64,
-    two: bool,
-    second: u64,
+    word: &'static [u8],
+    first: Option<u64>,
+    second: Option<u64>,
 }
 
-const WILL: Word = Word {
-    bytes: *b"WILL\0\0\0",
-    length: 4,
-};
-
-const WONT: Word = Word {
-    bytes: *b"WONT\0\0\0",
-    length: 4,
-};
-
-const DO: Word = Word {
-    bytes: *b"DO\0\0\0\0\0",
-    length: 2,
-};
-
-const DONT: Word = Word {
-    bytes: *b"DONT\0\0\0",
-    length: 4,
-};
-
-const EOR: Word = Word {
-    bytes: *b"EOR\0\0\0\0",
-    length: 3,
-};
-
-const CMD: Word = Word {
-    bytes: *b"CMD\0\0\0\0",
-    length: 3,
-};
-
-const DATA: Word = Word {
-    bytes: *b"DATA\0\0\0",
-    length: 4,
-};
-
-const SUB: Word = Word {
-    bytes: *b"SUB\0\0\0\0",
-    length: 3,
-};
-
-const END: Word = Word {
-    bytes: *b"END\0\0\0\0",
-    length: 3,
-};
-
-const REFUSED: Word = Word {
-    bytes: *b"REFUSED",
-    length: 7,
-};
-
-fn verb_word(verb: Verb) -> Word
-    ensures { IsWord (verb_name verb) result }
+fn verb_word(verb: Verb) -> &'static [u8]
+    ensures { (result.now ≡ verb_name verb) × (length result.now ≤ 7) }
 {
     match verb {
-        Verb::Will => WILL,
-        Verb::Wont => WONT,
-        Verb::Do => DO,
-        Verb::Dont => DONT,
+        Verb::Will => b"WILL",
+        Verb::Wont => b"WONT",
+        Verb::Do => b"DO",
+        Verb::Dont => b"DONT",
     }
 }
 
-fn bare(word: Word) -> Phrase
-    ensures { result ≡ alone word }
+fn bare(word: &'static [u8]) -> Phrase
+    requires { length word.now ≤ 7 }
+    ensures { IsPhrase word.now result }
 {
     Phrase {
         word,
-        one: false,
-        first: 0,
-        two: false,
-        second: 0,
+        first: None,
+        second: None,
     }
 }
 
 // A word and a number.
-fn with_number(word: Word, n: u64) -> Phrase
-    ensures { result ≡ numbered word n }
+#[tactic(auto, unfolding(crate::specs::Line::said))]
+fn with_number(word: &'static [u8], n: u64) -> Phrase
+    requires { length word.now ≤ 7 }
+    ensures { IsPhrase (said word.now n) result }
 {
     Phrase {
         word,
-        one: true,
-        first: n,
-        two: false,
-        second: 0,
+        first: Some(n),
+        second: None,
     }
 }
 
+#[tactic(auto, unfolding(crate::specs::Line::command_text))]
 fn command_phrase(c: u8) -> Phrase
     ensures { IsPhrase (command_text c) result }
 {
     if c == telnet::EOR {
-        return bare(EOR);
+        return bare(b"EOR");
     }
-    with_number(CMD, c as u64)
+    with_number(b"CMD", c as u64)
 }
 
+#[tactic(auto, unfolding(crate::specs::Line::text, crate::specs::Line::said))]
 fn kind_phrase(kind: Kind, length: usize) -> Phrase
     ensures { IsPhrase (text kind length) result }
 {
     match kind {
-        Kind::Data => with_number(DATA, length as u64),
+        Kind::Data => with_number(b"DATA", length as u64),
         Kind::Command(c) => command_phrase(c),
         Kind::Negotiation(verb, option) => with_number(verb_word(verb), option as u64),
         Kind::Subnegotiation(option) => Phrase {
-            word: SUB,
-            one: true,
-            first: option as u64,
-            two: true,
-            second: length as u64,
+            word: b"SUB",
+            first: Some(option as u64),
+            second: Some(length as u64),
         },
     }
 }
 
 // What a line says of what is at a place.
-pub(crate) fn answer_phrase(answer: Answer) -> Phrase
+#[tactic(auto, unfolding(crate::specs::Line::answer_text, crate::specs::Line::ending_text))]
+pub(crate) fn answer_phrase(answer: Result<Option<Found>, Refusal>) -> Phrase
     ensures { IsPhrase (answer_text answer) result }
 {
     match answer {
-        Answer::End => bare(END),
-        Answer::Found {
-            kind,
-            length,
-            next: _,
-        } => kind_phrase(kind, length),
-        Answer::Refused(n) => with_number(REFUSED, n as u64),
+        Ok(Some(found)) => kind_phrase(found.kind, found.length),
+        Ok(None) => bare(b"END"),
+        Err(e) => with_number(b"REFUSED", e.number() as u64),
     }
 }
 
@@ -164,27 +102,25 @@ fn put_number(n: u64, out: &mut [u8], at: usize) -> usize
 }
 
 // A blank and a word.
-fn put_word(word: Word, out: &mut [u8], at: usize) -> usize
-    requires { (word.length ≤ 7) × (at + (1 + word.length) ≤ length out.old) }
-    ensures { Put (ascii " " ++ word_text word) (1 + word.length) out.old at result out.new }
+fn put_word(word: &[u8], out: &mut [u8], at: usize) -> usize
+    requires { (length word.now ≤ 7) × (at + (1 + length word.now) ≤ length out.old) }
+    ensures { Put (ascii " " ++ word.now) (1 + length word.now) out.old at result out.new }
 {
     out[at] = b' ';
-    let bytes = word.bytes;
-    let n = word.length;
-    octets::put(&bytes[0..n], out, at + 1);
-    at + 1 + n
+    octets::put(word, out, at + 1);
+    at + 1 + word.len()
 }
 
 // A blank and a number, if it is there.
-fn put_spaced(present: bool, n: u64, out: &mut [u8], at: usize) -> usize
-    requires { at + most present ≤ length out.old }
-    ensures { Put (spaced_if present n) (most present) out.old at result out.new }
+fn put_spaced(number: Option<u64>, out: &mut [u8], at: usize) -> usize
+    requires { at + most number ≤ length out.old }
+    ensures { Put (spaced number) (most number) out.old at result out.new }
 {
-    if present {
-        out[at] = b' ';
-        return put_number(n, out, at + 1);
-    }
-    at
+    let Some(n) = number else {
+        return at;
+    };
+    out[at] = b' ';
+    put_number(n, out, at + 1)
 }
 
 // A blank and a phrase.
@@ -193,8 +129,8 @@ fn put_phrase(phrase: Phrase, out: &mut [u8], at: usize) -> usize
     ensures { Put (ascii " " ++ phrase_text phrase) 46 out.old at result out.new }
 {
     let first = put_word(phrase.word, out, at);
-    let second = put_spaced(phrase.one, phrase.first, out, first);
-    put_spaced(phrase.two, phrase.second, out, second)
+    let second = put_spaced(phrase.first, out, first);
+    put_spaced(phrase.second, out, second)
 }
 
 // The whole line, at the front.

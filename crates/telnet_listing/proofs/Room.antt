@@ -6,7 +6,7 @@ use mathlib.Core.Logic.{⊎_elim}
 use Prim.Native.Nat.{ℕ, zero, suc, ◌+◌, ◌*◌, ◌≤◌, ◌<◌}
 use native.Mathlib.Omega.{arith}
 use lib.Dec.{eqb, ltb}
-use lib.ListN.{length, drop, get_or, length-append, length-drop}
+use lib.ListN.{length, drop, length-append, length-drop}
 use lib.Seq.{get_or-drop}
 use borrow.Author.Tests.{lt-ltb, le-ltb}
 use Rattle.octets.specs.Ascii.{ascii}
@@ -15,6 +15,7 @@ use Rattle.octets.specs.Decimal.{decimal}
 use Rattle.octets.proofs.Choice.{choice}
 use Rattle.octets.proofs.Decimal.{length-decimal-short, length-decimal-lt}
 use Rattle.octets.proofs.Order.{below-or-above}
+use Rattle.refusal.specs.Refusal.{number}
 use Rattle.telnet.specs.declared.Verb.{Verb}
 use Rattle.telnet.specs.declared.Verb.TheVariants.{Will, Wont, Do, Dont}
 use Rattle.telnet.specs.declared.Lead.{Lead}
@@ -29,7 +30,7 @@ use Rattle.telnet_reader.proofs.Carried.{Carries, none, not_found, carries, even
 use Rattle.telnet_line.specs.Line.{said, verb_name, command_text, text, ending_text, answer_text, line}
 use Rattle.telnet_listing.specs.Listing.{listing}
 use Rattle.telnet_listing.specs.Printed.{limit, printed, Fits}
-use Rattle.telnet_listing.proofs.Lines.{lines_at, lines-all, after, turn-length}
+use Rattle.telnet_listing.proofs.Lines.{lines_at, lines-all, after, found_in, turn-length}
 
 -- a run has data, and the number that another event names is a byte
 abbrev Small : Event → Type 0
@@ -42,7 +43,7 @@ Small (subnegotiation o p) = o < 256
 abbrev Plain : Front → Type 0
 Plain no_event = Unit {0}
 Plain (found e) = Small e
-Plain (refused n) = n < 10
+Plain (refused why) = number why < 10
 
 closed-plain : (o : ℕ) (p rest : List ℕ) → o < 256 → Plain (closed o p rest)
 unfolding closed
@@ -124,11 +125,11 @@ module _ (s : List ℕ) (g : Bytes s) (most : length s ≤ limit) where
       omega (arith, turn-length s i h (sym (looked s i h)) refl, go (event_of (drop i s)) (event-carries (drop i s)) (event-plain (drop i s) (bytes-from i)))
     where
       go : (f : Front) → Carries (drop i s) f → Plain f
-          → length (line i (answer_text (answered i f))) + length (after s (answered i f)) + 13 * i ≤ 13 * length s + 16
+          → length (line i (answer_text (answered i f))) + length (after s (found_in (answered i f))) + 13 * i ≤ 13 * length s + 16
       go _ none p = omega (arith, length-line i (ascii "END"), place_short i h)
-      go (refused n) not_found p =
+      go (refused why) not_found p =
           let w = ascii "REFUSED" in
-          omega (arith, length-line i (said w n), length-said w n, length-decimal-short n p, place_short i h)
+          omega (arith, length-line i (said w (number why)), length-said w (number why), length-decimal-short (number why) p, place_short i h)
       go (found e) (carries c) p =
           let w = length-drop i s in
           let t = text (kind e) (length (carried_bytes e)) in

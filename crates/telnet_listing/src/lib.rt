@@ -9,8 +9,7 @@ ghost use Rattle.telnet_listing.specs.Listing.{listing};
 ghost use Rattle.telnet_listing.specs.Printed.{printed};
 ghost use Rattle.telnet_listing.specs.Internal.Sized.{sized};
 
-use refusal::Written;
-use telnet_reader::Answer;
+use refusal::Refusal;
 
 // How many bytes may come, and room for what is printed for them.
 pub const LIMIT: usize = 65536;
@@ -18,7 +17,7 @@ pub const LIMIT: usize = 65536;
 pub const ROOM: usize = 13 * LIMIT + 16;
 
 // How long the whole listing is, if there is room for it. To go on past the room might wrap the sum, so it stops there.
-fn listing_length(s: &[u8], room: usize) -> Written
+fn listing_length(s: &[u8], room: usize) -> Result<usize, Refusal>
     ensures { result ≡ sized (listing s.now) room }
 {
     let mut i = 0;
@@ -28,24 +27,13 @@ fn listing_length(s: &[u8], room: usize) -> Written
         let text = telnet_line::line_text(i, answer);
         let n = text.length;
         if room - total < n {
-            return Written::Refused(refusal::NO_ROOM);
+            return Err(Refusal::NoRoom);
         }
         total += n;
-        match answer {
-            Answer::Found {
-                kind: _,
-                length: _,
-                next,
-            } => {
-                i = next;
-            }
-            Answer::End => {
-                return Written::Wrote(total);
-            }
-            Answer::Refused(_) => {
-                return Written::Wrote(total);
-            }
-        }
+        let Some(found) = answer.unwrap_or(None) else {
+            return Ok(total);
+        };
+        i = found.next;
     }
 }
 
@@ -63,36 +51,19 @@ fn put_lines(s: &[u8], out: &mut [u8]) -> usize
         let n = line.length;
         octets::put(&bytes[0..n], out, at);
         at += n;
-        match answer {
-            Answer::Found {
-                kind: _,
-                length: _,
-                next,
-            } => {
-                i = next;
-            }
-            Answer::End => {
-                return at;
-            }
-            Answer::Refused(_) => {
-                return at;
-            }
-        }
+        let Some(found) = answer.unwrap_or(None) else {
+            return at;
+        };
+        i = found.next;
     }
 }
 
 // The whole listing. What does not fit is not begun: the lengths are added up first.
-pub fn list(s: &[u8], out: &mut [u8]) -> Written
+pub fn list(s: &[u8], out: &mut [u8]) -> Result<usize, Refusal>
     ensures { outcome result out.new ≡ written_into (listing s.now) out.old }
 {
-    match listing_length(s, out.len()) {
-        Written::Wrote(_) => {
-            return Written::Wrote(put_lines(s, out));
-        }
-        Written::Refused(n) => {
-            return Written::Refused(n);
-        }
-    }
+    listing_length(s, out.len())?;
+    Ok(put_lines(s, out))
 }
 
 // What the listing program prints for its input: at the front, with its length. `ROOM` is enough, so there is no

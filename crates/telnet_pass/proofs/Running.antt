@@ -1,4 +1,5 @@
 -- A turn at a place of a fragment: the loop's equation after it, by what is to be done with the byte. Assumes nothing.
+use Rattle.std.specs.Prelude.{Option}
 use mathlib.Core.Path.{◌≡◌, sym, ap, ◌∙◌}
 use mathlib.Core.List.{List, [], ◌∷◌, ◌++◌, append-nil, append_assoc}
 use Prim.Native.Nat.{ℕ, suc, ◌+◌, ◌≤◌, ◌<◌}
@@ -63,7 +64,7 @@ module _ (s : List ℕ) (i : ℕ) (at : Stage) (n : ℕ) (p : List ℕ) (x : Lis
     unfolding after
     keeps_on k = sym (ahead-still i x (given (standing t.stage (n + 1) (set p n (get_or s i 0))) (drop (i + 1) s))) ∙ here Keeps k
 
-    pub stops-on : (k : Kind) → t.act ≡ Stops k → call x (happened k (take n p)) (i + 1) (standing t.stage n p) ≡ whole
+    pub stops-on : (k : Option Kind) → t.act ≡ Stops k → call x (happened k (take n p)) (i + 1) (standing t.stage n p) ≡ whole
     unfolding after
     stops-on k f = rw append-nil at (here (Stops k) f)
 

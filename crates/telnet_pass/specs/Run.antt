@@ -1,5 +1,5 @@
 -- What is found of bytes that are gone through from a reader's stage on.
-use Rattle.std.specs.Prelude.{◌≡◌, ℕ, ◌≤◌, List, length, take}
+use Rattle.std.specs.Prelude.{◌≡◌, ℕ, ◌≤◌, List, length, take, Option}
 use Rattle.telnet.specs.declared.Kind.{Kind}
 use Rattle.telnet.specs.Event.{payload_limit}
 use Rattle.telnet_fragments.specs.declared.Stage.{Stage}
@@ -8,7 +8,7 @@ use Rattle.telnet_fragments.specs.Promise.{standing, happened}
 use Rattle.telnet_pass.specs.declared.Run.{Run}
 use Rattle.octets.specs.Lent.{overwrite}
 
-abbrev pub ran : Stage → (count taken length : ℕ) → Kind → Run
+abbrev pub ran : Stage → (count taken length : ℕ) → Option Kind → Run
 ran s n t l k = record { stage = s; count = n; taken = t; length = l; kind = k }
 
 -- What the bytes bs came to, from a stage s with n payload bytes of the array p and with a buffer out: the data at the

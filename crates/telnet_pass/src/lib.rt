@@ -10,17 +10,17 @@ use telnet_fragments::Stage;
 use telnet_stage::Act;
 
 // What bytes came to: the stage and the payload bytes that are kept, how many bytes were taken, how many bytes of data
-// are at the front of the buffer, and the event (Data where there is none).
+// are at the front of the buffer, and the event, if any.
 #[derive(Clone, Copy)]
 pub struct Run {
     pub stage: Stage,
     pub count: usize,
     pub taken: usize,
     pub length: usize,
-    pub kind: Kind,
+    pub kind: Option<Kind>,
 }
 
-fn run_of(stage: Stage, count: usize, taken: usize, length: usize, kind: Kind) -> Run
+fn run_of(stage: Stage, count: usize, taken: usize, length: usize, kind: Option<Kind>) -> Run
     ensures { result ≡ ran stage count taken length kind }
 {
     Run {
@@ -57,7 +57,7 @@ fn go_through(stage: Stage, count: usize, kept: &mut [u8], s: &[u8], out: &mut [
                 out[d] = b;
                 d += 1;
                 if s.len() <= i {
-                    return run_of(at, n, i, d, Kind::Data);
+                    return run_of(at, n, i, d, None);
                 }
                 let run = telnet_data::copy_run(s, i, out, d);
                 d += run.count;
@@ -75,7 +75,7 @@ fn go_through(stage: Stage, count: usize, kept: &mut [u8], s: &[u8], out: &mut [
             Act::Stops(kind) => return run_of(at, n, i, d, kind),
         }
     }
-    run_of(at, n, i, d, Kind::Data)
+    run_of(at, n, i, d, None)
 }
 
 // The same of bytes of any number: as many are gone through as there is room for.
@@ -88,6 +88,6 @@ pub fn pass(
 ) -> Run
     ensures { Ran stage count kept.old (take (length out.old) s.now) out.old result kept.new out.new }
 {
-    let end = octets_part::clipped(s.len(), out.len());
+    let end = s.len().min(out.len());
     go_through(stage, count, kept, &s[0..end], out)
 }

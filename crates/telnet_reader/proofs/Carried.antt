@@ -1,5 +1,5 @@
 -- Where the bytes that an event carries are: after its lead-in they are the stretch there. Assumes nothing.
-use Rattle.std.specs.Prelude.{if◌then◌else◌}
+use Rattle.std.specs.Prelude.{if◌then◌else◌, None, Some, Ok, Err}
 use mathlib.Core.Path.{◌≡◌, refl, sym, ap, subst, ◌∙◌}
 use mathlib.Core.Bool.{Bool, true, false}
 use mathlib.Core.List.{List, [], ◌∷◌}
@@ -16,8 +16,7 @@ use Rattle.octets.specs.Promise.{write_front}
 use Rattle.octets.proofs.Promise.{front_fits}
 use Rattle.telnet.specs.declared.Lead.{Lead}
 use Rattle.telnet.specs.declared.Lead.TheVariants.{Faulty, Opens, Negotiates, Simple}
-use Rattle.telnet_reader.specs.declared.Answer.{Answer}
-use Rattle.telnet_reader.specs.declared.Answer.TheVariants.{End, Found, Refused}
+use Rattle.telnet_reader.specs.declared.Found.{Found}
 use Rattle.telnet.specs.declared.Kind.TheVariants.{Data}
 use Rattle.telnet.specs.Event.{Event, run, command, negotiation, kind, carried_bytes, lead, se, payload_limit}
 use Rattle.telnet.specs.Write.{written, doubled}
@@ -28,8 +27,9 @@ use Rattle.telnet.specs.Record.{data_of}
 use Rattle.telnet.proofs.Stretch.{doubled-longer}
 use Rattle.telnet_data.proofs.Stretches.{span-within, count-within}
 use Rattle.telnet_reader.proofs.Places.{look-run}
-use Rattle.telnet_reader.specs.Promise.{answered, look_at, delivered, read_at}
-use Rattle.refusal.specs.Refusal.{no_room, past_the_end}
+use Rattle.telnet_reader.specs.Promise.{Answer, event_found, answered, look_at, delivered, read_at}
+use Rattle.refusal.specs.declared.Refusal.{Refusal}
+use Rattle.refusal.specs.declared.Refusal.TheVariants.{NoRoom, PastTheEnd}
 
 -- an event that is at the front: it takes at least one byte and none past the end, what it carries is the stretch
 -- after its lead-in, and its data, if any, the stretch at the front
@@ -41,7 +41,7 @@ pub record Stands (bs : List ℕ) (e : Event) : Type 0 where
 
 pub data Carries (bs : List ℕ) : Front → Type 0 where
   none : Carries bs no_event
-  not_found : {n : ℕ} → Carries bs (refused n)
+  not_found : {why : Refusal} → Carries bs (refused why)
   carries : {e : Event} → Stands bs e → Carries bs (found e)
 
 closed-carries : (b c o : ℕ) (p rest : List ℕ) → data_run (b ∷ c ∷ o ∷ p) ≡ [] → length rest ≡ length p - length (doubled (data_run p))
@@ -97,15 +97,15 @@ event-stands bs e f = go (subst (Carries bs) f (event-carries bs))
 
 -- an event that was looked at lies within the bytes, and what it carries is the stretch after its lead-in
 abbrev pub Placed : List ℕ → ℕ → Answer → Type 0
-Placed s at End = Unit {0}
-Placed s at (Found k n x) = (at ≤ length s) × (n ≡ length (data_run (drop (at + lead_in k) s)))
-Placed s at (Refused m) = Unit {0}
+Placed s at (Ok None) = Unit {0}
+Placed s at (Ok (Some f)) = (at ≤ length s) × (f.length ≡ length (data_run (drop (at + lead_in f.kind) s)))
+Placed s at (Err why) = Unit {0}
 
 -- what `read` leaves, by what `look` answers
 abbrev pub delivering : List ℕ → ℕ → List ℕ → Answer → Outcome Answer
-delivering s at out End = outcome End out
-delivering s at out (Found k n x) = write_front (λ _. Found k n x) (Refused no_room) (data_run (drop (at + lead_in k) s)) out
-delivering s at out (Refused m) = outcome (Refused m) out
+delivering s at out (Ok None) = outcome (Ok None) out
+delivering s at out (Ok (Some f)) = write_front (λ _. Ok (Some f)) (Err NoRoom) (data_run (drop (at + lead_in f.kind) s)) out
+delivering s at out (Err why) = outcome (Err why) out
 
 module _ (s : List ℕ) (at : ℕ) where
   answered-placed : at ≤ length s → (f : Front) → Carries (drop at s) f → Placed s at (answered at f)
@@ -118,7 +118,7 @@ module _ (s : List ℕ) (at : ℕ) where
   unfolding look_at
   looked-placed = go (ltb (length s) at) refl
     where
-      go : (t : Bool) → ltb (length s) at ≡ t → Placed s at (if t then Refused past_the_end else answered at (event_of (drop at s)))
+      go : (t : Bool) → ltb (length s) at ≡ t → Placed s at (if t then Err PastTheEnd else answered at (event_of (drop at s)))
       go true e = tt
       go false e = answered-placed (ltb-false (length s) at e) (event_of (drop at s)) (event-carries (drop at s))
 
@@ -132,14 +132,14 @@ module _ (s : List ℕ) (at : ℕ) where
   unfolding read_at look_at
   read-delivers out = go (ltb (length s) at)
     where
-      go : (t : Bool) → (if t then outcome (Refused past_the_end) out else delivered at (event_of (drop at s)) out)
-          ≡ delivering s at out (if t then Refused past_the_end else answered at (event_of (drop at s)))
+      go : (t : Bool) → (if t then outcome (Err PastTheEnd) out else delivered at (event_of (drop at s)) out)
+          ≡ delivering s at out (if t then Err PastTheEnd else answered at (event_of (drop at s)))
       go true = refl
       go false = delivers out (event_of (drop at s)) (event-carries (drop at s))
 
   -- a run for which there is room
   pub read-run : (out : List ℕ) → 0 < count (drop at s) → count (drop at s) ≤ length out
-      → read_at s at out ≡ outcome (Found Data (count (drop at s)) (at + span (drop at s))) (overwrite out 0 (data_run (drop at s)))
+      → read_at s at out ≡ outcome (event_found Data (count (drop at s)) (at + span (drop at s))) (overwrite out 0 (data_run (drop at s)))
   unfolding count
   read-run out h g =
       let within : at ≤ length s = omega (arith, count-within (drop at s), length-drop at s) in

@@ -1,4 +1,5 @@
 -- The laws of `specs/internal/Gather.antt`: a record is gathered one event after another. Assumes nothing.
+use Rattle.std.specs.Prelude.{None, Some, Ok, Err}
 use mathlib.Core.Path.{◌≡◌, refl, sym, ap, ap₂, ◌∙◌}
 use mathlib.Core.Bool.{Bool, true, false}
 use mathlib.Core.List.{List, [], ◌++◌}
@@ -11,19 +12,19 @@ use borrow.Author.Tests.{lt-ltb, le-ltb}
 use Rattle.octets.specs.Lent.{Outcome, outcome, overwrite}
 use Rattle.octets.specs.Promise.{write_front}
 use Rattle.octets.proofs.Overwrite.{overwrite-append}
-use Rattle.refusal.specs.Refusal.{no_room, past_the_end}
+use Rattle.refusal.specs.declared.Refusal.{Refusal}
+use Rattle.refusal.specs.declared.Refusal.TheVariants.{NoRoom, PastTheEnd}
 use Rattle.telnet.specs.declared.Kind.{Kind}
 use Rattle.telnet.specs.declared.Kind.TheVariants.{Data}
-use Rattle.telnet_reader.specs.declared.Answer.TheVariants.{End, Found, Refused}
-use Rattle.telnet_records.specs.declared.Record.{Record}
-use Rattle.telnet_records.specs.declared.Record.TheVariants.{Complete, Unfinished, Refused as NoRecord}
 use Rattle.telnet.specs.Event.{Event, run, command, negotiation, subnegotiation, kind, carried_bytes}
 use Rattle.telnet.specs.Write.{written}
 use Rattle.telnet.specs.Read.{data_run, Front, no_event, found, refused, event_of}
 use Rattle.telnet.specs.Whole.{well, refusal}
 use Rattle.telnet.specs.Record.{is_end_of_record, data_of, Gathered, complete, no_record, with_event, gathered, record_of}
-use Rattle.telnet_reader.specs.Promise.{answered, look_at}
-use Rattle.telnet_records.specs.Promise.{answer_no_record, kept, record_at}
+use Rattle.telnet_reader.specs.declared.Found.{Found}
+use Rattle.telnet_records.specs.declared.Record.{Record}
+use Rattle.telnet_reader.specs.Promise.{event_found, answered, look_at}
+use Rattle.telnet_records.specs.Promise.{Answer, record_found, answer_no_record, kept, record_at}
 use Rattle.telnet_records.specs.Internal.Gather.{data_length, ends_record, sized, sized_at, record_data, data_at, CanCopy, Copied, CanPass, Passed}
 use Rattle.telnet.specs.Theorems.{read_on}
 use Rattle.telnet.proofs.Unroll.{unrolled}
@@ -43,9 +44,9 @@ pub record-end : (bs : List ℕ) → event_of bs ≡ no_event → record_of bs �
 unfolding gathered read_on
 record-end bs e = record-unrolled bs ∙ rw e
 
-pub record-refused : (bs : List ℕ) (n : ℕ) → event_of bs ≡ refused n → record_of bs ≡ no_record (refusal n)
+pub record-refused : (bs : List ℕ) (why : Refusal) → event_of bs ≡ refused why → record_of bs ≡ no_record (refusal why)
 unfolding gathered read_on
-record-refused bs n e = record-unrolled bs ∙ rw e
+record-refused bs why e = record-unrolled bs ∙ rw e
 
 pub record-ends : (bs : List ℕ) (e : Event) → event_of bs ≡ found e → is_end_of_record e ≡ true → record_of bs ≡ complete [] (length (written e))
 unfolding gathered read_on
@@ -83,7 +84,7 @@ data-shorter (subnegotiation o p) = omega arith
 pub sized-joined : (n i : ℕ) (e : Event) (g : Gathered) → sized n i (with_event e g) ≡ sized (n + length (data_of e)) (i + length (written e)) g
 unfolding sized with_event
 sized-joined n i e (complete d w) =
-    ap₂ Complete (ap (λ k. n + k) (length-append (data_of e) d) ∙ sym (add_assoc n (length (data_of e)) (length d)))
+    ap₂ record_found (ap (λ k. n + k) (length-append (data_of e) d) ∙ sym (add_assoc n (length (data_of e)) (length d)))
     (sym (add_assoc i (length (written e)) w))
 sized-joined n i e (no_record how) = refl
 
@@ -118,35 +119,44 @@ left bs e f h = go (is_end_of_record e) refl
         ap record_data is ∙ joined-data e rest (rw is at h)
 
 module _ (s : List ℕ) (i : ℕ) (h : i ≤ length s) where
-  pub event-end : look_at s i ≡ End → event_of (drop i s) ≡ no_event
+  pub event-end : look_at s i ≡ Ok None → event_of (drop i s) ≡ no_event
   unfolding answered
   event-end e = go (event_of (drop i s)) (sym (looked s i h) ∙ e)
     where
-      go : (f : Front) → answered i f ≡ End → f ≡ no_event
+      go : (f : Front) → answered i f ≡ Ok None → f ≡ no_event
       go no_event g = refl
       go (found x) g = cc
       go (refused n) g = cc
 
-  pub event-refused : (n : ℕ) → look_at s i ≡ Refused n → event_of (drop i s) ≡ refused n
+  pub event-refused : (why : Refusal) → look_at s i ≡ Err why → event_of (drop i s) ≡ refused why
   unfolding answered
-  event-refused n e = go (event_of (drop i s)) (sym (looked s i h) ∙ e)
+  event-refused why e = go (event_of (drop i s)) (sym (looked s i h) ∙ e)
     where
-      go : (f : Front) → answered i f ≡ Refused n → f ≡ refused n
+      go : (f : Front) → answered i f ≡ Err why → f ≡ refused why
       go no_event g = cc
       go (found x) g = cc
       go (refused m) g = cc
 
-  pub event-found : (k : Kind) (n x : ℕ) → look_at s i ≡ Found k n x → LookedAt s i k n x
+  pub event-found : (k : Kind) (n x : ℕ) → look_at s i ≡ event_found k n x → LookedAt s i k n x
   unfolding answered
   event-found k n x e = go (event_of (drop i s)) refl (sym (looked s i h) ∙ e)
     where
-      go : (f : Front) → event_of (drop i s) ≡ f → answered i f ≡ Found k n x → LookedAt s i k n x
+      go : (f : Front) → event_of (drop i s) ≡ f → answered i f ≡ event_found k n x → LookedAt s i k n x
       go no_event is g = absurd (let z : ◌≡◌ {A = ℕ} 0 1 = cc in omega arith)
       go (refused m) is g = absurd (let z : ◌≡◌ {A = ℕ} 0 1 = cc in omega arith)
-      go (found e) is g = record { event = e; is = is; its-kind = cc; its-length = cc; its-next = cc }
+      go (found e) is g =
+          let f : Found = record { kind = kind e; length = length (carried_bytes e); next = i + length (written e) } in
+          let same : record { kind = k; length = n; next = x } ≡ f = cc in
+          record {
+            event = e;
+            is = is;
+            its-kind = ap (λ (v : Found). v.kind) same;
+            its-length = ap (λ (v : Found). v.length) same;
+            its-next = ap (λ (v : Found). v.next) same;
+          }
 
   -- it lies ahead and within the bytes
-  pub found-further : (k : Kind) (l x : ℕ) → look_at s i ≡ Found k l x → (i < x) × (x ≤ length s) × (i + data_length k l ≤ x)
+  pub found-further : (k : Kind) (l x : ℕ) → look_at s i ≡ event_found k l x → (i < x) × (x ≤ length s) × (i + data_length k l ≤ x)
   found-further k l x e =
       let v = event-found k l x e in
       let p = event-stands (drop i s) v.event v.is in
@@ -154,16 +164,16 @@ module _ (s : List ℕ) (i : ℕ) (h : i ≤ length s) where
       omega (arith, p, added, v.its-next, length-drop i s, data-shorter v.event)
 
   -- no data of a record are left where no event is found
-  pub data-end : look_at s i ≡ End → data_at s i ≡ []
+  pub data-end : look_at s i ≡ Ok None → data_at s i ≡ []
   unfolding data_at record_data
   data-end e = rw (record-end (drop i s) (event-end e))
 
-  pub data-refused : (n : ℕ) → look_at s i ≡ Refused n → data_at s i ≡ []
+  pub data-refused : (why : Refusal) → look_at s i ≡ Err why → data_at s i ≡ []
   unfolding data_at record_data
-  data-refused n e = rw (record-refused (drop i s) n (event-refused n e))
+  data-refused why e = rw (record-refused (drop i s) why (event-refused why e))
 
   -- where data are left, the event's own are at the place and the others after it
-  pub data-goes : (k : Kind) (l x : ℕ) → look_at s i ≡ Found k l x → 0 < length (data_at s i)
+  pub data-goes : (k : Kind) (l x : ℕ) → look_at s i ≡ event_found k l x → 0 < length (data_at s i)
       → (data_length k l ≡ length (data_run (drop i s))) × (data_at s i ≡ data_run (drop i s) ++ data_at s x)
   unfolding data_at record_data
   data-goes k l x e some =
@@ -177,22 +187,22 @@ module _ (s : List ℕ) (i : ℕ) (h : i ≤ length s) where
 
   -- the record from the place on, after n bytes of data, by what `look` answers there
   module _ (n : ℕ) where
-    pub sized-end : look_at s i ≡ End → sized_at s n i ≡ Unfinished
+    pub sized-end : look_at s i ≡ Ok None → sized_at s n i ≡ Ok None
     unfolding sized_at sized answer_no_record
     sized-end e = rw (record-end (drop i s) (event-end e))
 
-    pub sized-refused : (m : ℕ) → look_at s i ≡ Refused m → sized_at s n i ≡ NoRecord m
+    pub sized-refused : (why : Refusal) → look_at s i ≡ Err why → sized_at s n i ≡ Err why
     unfolding sized_at sized answer_no_record
-    sized-refused m e = rw (record-refused (drop i s) m (event-refused m e))
+    sized-refused why e = rw (record-refused (drop i s) why (event-refused why e))
 
-    pub sized-ends : (k : Kind) (l x : ℕ) → look_at s i ≡ Found k l x → ends_record k ≡ true → sized_at s n i ≡ Complete n x
+    pub sized-ends : (k : Kind) (l x : ℕ) → look_at s i ≡ event_found k l x → ends_record k ≡ true → sized_at s n i ≡ record_found n x
     unfolding sized_at sized
     sized-ends k l x e t =
         let v = event-found k l x e in
         let ends : is_end_of_record v.event ≡ true = sym (ends-by-kind v.event) ∙ ap ends_record (sym v.its-kind) ∙ t in
         rw (record-ends (drop i s) v.event v.is ends, ← v.its-next, add-zero)
 
-    pub sized-goes : (k : Kind) (l x : ℕ) → look_at s i ≡ Found k l x → ends_record k ≡ false → sized_at s n i ≡ sized_at s (n + data_length k l) x
+    pub sized-goes : (k : Kind) (l x : ℕ) → look_at s i ≡ event_found k l x → ends_record k ≡ false → sized_at s n i ≡ sized_at s (n + data_length k l) x
     unfolding sized_at
     sized-goes k l x e t =
         let v = event-found k l x e in
@@ -204,7 +214,7 @@ module _ (s : List ℕ) (i : ℕ) (h : i ≤ length s) where
         ∙ ap₂ (λ m j. sized (n + m) j (record_of (drop j s))) (sym added) (sym v.its-next)
 
 -- an event without data is passed, and the buffer is as it was
-pub event-passed : {s : List ℕ} {i : ℕ} → CanPass s i → (k : Kind) (l x : ℕ) → look_at s i ≡ Found k l x → Passed s i x
+pub event-passed : {s : List ℕ} {i : ℕ} → CanPass s i → (k : Kind) (l x : ℕ) → look_at s i ≡ event_found k l x → Passed s i x
 event-passed {s} {i} p k l x e =
     let f = found-further s i p.within k l x e in
     let d = data-goes s i p.within k l x e p.some in
@@ -225,7 +235,7 @@ module _ (s : List ℕ) (i : ℕ) (out : List ℕ) (to : ℕ) (p : CanCopy s i o
       let all = (data-goes s i p.within Data (count (drop i s)) (i + span (drop i s)) at-run p.some).1 in
       let lengths = ap length all ∙ length-append here (data_at s (i + span (drop i s))) in
       let run = run-whole s i out to e (omega (arith, p.room, lengths)) in
-      let looked-at = at-run ∙ sym (ap₂ (Found Data) run.told.counted run.told.ended) in
+      let looked-at = at-run ∙ sym (ap₂ (event_found Data) run.told.counted run.told.ended) in
       let f = found-further s i p.within Data r.count r.end looked-at in
       let d = data-goes s i p.within Data r.count r.end looked-at p.some in
       let after = data_at s r.end in
@@ -244,13 +254,13 @@ module _ (s : List ℕ) (i : ℕ) (out : List ℕ) (to : ℕ) (p : CanCopy s i o
   none-copied h = record { within = p.within; some = p.some; none = run-empty s i out to e h (omega (arith, p.some, p.room)) }
 
 -- what `read_record` leaves, by what was found
-abbrev pub keeping : List ℕ → ℕ → List ℕ → Record → Outcome Record
-keeping s at out (Complete n x) = write_front (λ length. Complete length x) (NoRecord no_room) (data_at s at) out
-keeping s at out Unfinished = outcome Unfinished out
-keeping s at out (NoRecord m) = outcome (NoRecord m) out
+abbrev pub keeping : List ℕ → ℕ → List ℕ → Answer → Outcome Answer
+keeping s at out (Ok (Some r)) = write_front (λ length. record_found length r.next) (Err NoRoom) (data_at s at) out
+keeping s at out (Ok None) = outcome (Ok None) out
+keeping s at out (Err why) = outcome (Err why) out
 
 module _ (s : List ℕ) (at : ℕ) where
-  pub record-past : (out : List ℕ) → length s < at → record_at s at out ≡ outcome (NoRecord past_the_end) out
+  pub record-past : (out : List ℕ) → length s < at → record_at s at out ≡ outcome (Err PastTheEnd) out
   unfolding record_at
   record-past out h = rw (lt-ltb (length s) at h)
 
@@ -261,13 +271,15 @@ module _ (s : List ℕ) (at : ℕ) where
       go : (g : Gathered) → record_of (drop at s) ≡ g → kept at g out ≡ keeping s at out (sized 0 at g)
       go (complete d w) e = rw e
       go (no_record well) e = refl
-      go (no_record (refusal m)) e = refl
+      go (no_record (refusal why)) e = refl
 
-  pub found-length : (n x : ℕ) → sized_at s 0 at ≡ Complete n x → n ≡ length (data_at s at)
+  pub found-length : (n x : ℕ) → sized_at s 0 at ≡ record_found n x → n ≡ length (data_at s at)
   unfolding sized_at sized answer_no_record data_at record_data
   found-length n x e = go (record_of (drop at s)) e
     where
-      go : (g : Gathered) → sized 0 at g ≡ Complete n x → n ≡ length (record_data g)
-      go (complete d w) f = let same : 0 + length d ≡ n = cc in omega arith
+      go : (g : Gathered) → sized 0 at g ≡ record_found n x → n ≡ length (record_data g)
+      go (complete d w) f = let r : Record = record { length = 0 + length d; next = at + w } in
+          let same : r ≡ record { length = n; next = x } = cc in
+          omega (arith, ap (λ (v : Record). v.length) same)
       go (no_record well) f = cc
-      go (no_record (refusal m)) f = cc
+      go (no_record (refusal why)) f = cc

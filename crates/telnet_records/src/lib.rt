@@ -4,27 +4,19 @@
 #![tactic(auto)]
 
 ghost use Rattle.std.specs.Prelude.{◌≡◌, ◌≤◌, length};
-ghost use Rattle.telnet_records.specs.Internal.Gather.{data_length, ends_record, sized_at, data_at, Advanced, CanCopy, Copied, CanPass, Passed};
+ghost use Rattle.telnet_records.specs.Internal.Gather.{data_length, ends_record, sized_at, data_at, CanCopy, Copied, CanPass, Passed};
 ghost use Rattle.telnet_records.specs.Promise.{record_at};
 ghost use Rattle.octets.specs.Lent.{outcome, overwrite};
 
+use refusal::Refusal;
 use telnet::Kind;
 use telnet_data::Extent;
-use telnet_reader::Answer;
 
-// A record, with the number of its bytes and the place after it; no end-of-record before the input ended; or a refusal.
+// A record, with the number of its bytes and the place after it.
 #[derive(Clone, Copy)]
-pub enum Record {
-    Complete { length: usize, next: usize },
-    Unfinished,
-    Refused(u8),
-}
-
-// What one event makes of a record: more of it is to come from a place on, after so much data; or it is known.
-#[derive(Clone, Copy)]
-pub enum Progress {
-    More { place: usize, count: usize },
-    Done(Record),
+pub struct Record {
+    pub length: usize,
+    pub next: usize,
 }
 
 // How many bytes an event adds to a record.
@@ -33,9 +25,7 @@ fn data_length(kind: Kind, length: usize) -> usize
 {
     match kind {
         Kind::Data => length,
-        Kind::Command(_) => 0,
-        Kind::Negotiation(_, _) => 0,
-        Kind::Subnegotiation(_) => 0,
+        _ => 0,
     }
 }
 
@@ -43,60 +33,27 @@ fn data_length(kind: Kind, length: usize) -> usize
 fn ends_record(kind: Kind) -> bool
     ensures { result ≡ ends_record kind }
 {
-    match kind {
-        Kind::Data => false,
-        Kind::Command(c) => c == telnet::EOR,
-        Kind::Negotiation(_, _) => false,
-        Kind::Subnegotiation(_) => false,
-    }
+    matches!(kind, Kind::Command(telnet::EOR))
 }
 
-// One event further in a record that has `count` bytes so far.
-fn advance(s: &[u8], at: usize, count: usize) -> Progress
-    requires { (at ≤ length s.now) × (count ≤ at) }
-    ensures { Advanced s.now at count result }
-{
-    match telnet_reader::look(s, at) {
-        Answer::End => {
-            return Progress::Done(Record::Unfinished);
-        }
-        Answer::Refused(n) => {
-            return Progress::Done(Record::Refused(n));
-        }
-        Answer::Found { kind, length, next } => {
-            if ends_record(kind) {
-                return Progress::Done(Record::Complete {
-                    length: count,
-                    next,
-                });
-            }
-            return Progress::More {
-                place: next,
-                count: count + data_length(kind, length),
-            };
-        }
-    }
-}
-
-// The record from a place on: its length and the place after it. Nothing is copied.
-fn find_record(s: &[u8], at: usize) -> Record
+// The record from a place on: its length and the place after it, or none before the input ends. Nothing is copied.
+fn find_record(s: &[u8], at: usize) -> Result<Option<Record>, Refusal>
     requires { at ≤ length s.now }
     ensures { result ≡ sized_at s.now 0 at }
 {
     let mut i = at;
     let mut n = 0;
-    while i < s.len() {
-        match advance(s, i, n) {
-            Progress::More { place, count } => {
-                i = place;
-                n = count;
-            }
-            Progress::Done(r) => {
-                return r;
-            }
+    while let Some(found) = telnet_reader::look(s, i)? {
+        if ends_record(found.kind) {
+            return Ok(Some(Record {
+                length: n,
+                next: found.next,
+            }));
         }
+        n += data_length(found.kind, found.length);
+        i = found.next;
     }
-    Record::Unfinished
+    Ok(None)
 }
 
 // The place after the event at a place, which adds nothing to a record.
@@ -105,19 +62,9 @@ fn pass_event(s: &[u8], at: usize) -> usize
     ensures { Passed s.now at result }
 {
     match telnet_reader::look(s, at) {
-        Answer::Found {
-            kind: _,
-            length: _,
-            next,
-        } => {
-            return next;
-        }
-        Answer::End => {
-            return at;
-        }
-        Answer::Refused(_) => {
-            return at;
-        }
+        Ok(Some(found)) => found.next,
+        Ok(None) => at,
+        Err(_) => at,
     }
 }
 
@@ -155,25 +102,18 @@ fn copy_record(s: &[u8], at: usize, total: usize, out: &mut [u8])
 }
 
 // The record from a place on, with its data copied to the front of the buffer.
-pub fn read_record(s: &[u8], at: usize, out: &mut [u8]) -> Record
+pub fn read_record(s: &[u8], at: usize, out: &mut [u8]) -> Result<Option<Record>, Refusal>
     ensures { outcome result out.new ≡ record_at s.now at out.old }
 {
     if s.len() < at {
-        return Record::Refused(refusal::PAST_THE_END);
+        return Err(Refusal::PastTheEnd);
     }
-    match find_record(s, at) {
-        Record::Complete { length, next } => {
-            if out.len() < length {
-                return Record::Refused(refusal::NO_ROOM);
-            }
-            copy_record(s, at, length, out);
-            return Record::Complete { length, next };
-        }
-        Record::Unfinished => {
-            return Record::Unfinished;
-        }
-        Record::Refused(n) => {
-            return Record::Refused(n);
-        }
+    let Some(record) = find_record(s, at)? else {
+        return Ok(None);
+    };
+    if out.len() < record.length {
+        return Err(Refusal::NoRoom);
     }
+    copy_record(s, at, record.length, out);
+    Ok(Some(record))
 }

@@ -1,6 +1,6 @@
 -- A turn is a step of the whole reading (`turn-found`), and what it says of the stage that it leads to (`turn_is`).
 -- Assumes nothing.
-use Rattle.std.specs.Prelude.{if◌then◌else◌}
+use Rattle.std.specs.Prelude.{if◌then◌else◌, None, Some}
 use mathlib.Core.Path.{◌≡◌, refl, sym, ap, subst, ◌∙◌}
 use mathlib.Core.Bool.{Bool, true, false}
 use mathlib.Core.Logic.{⊎_elim}
@@ -14,7 +14,7 @@ use lib.Seq.{length-take-le, take_all, take-suc-set}
 use borrow.Author.Tests.{lt-ltb, le-ltb, ltb-true}
 use Rattle.telnet.specs.declared.Lead.{Lead}
 use Rattle.telnet.specs.declared.Lead.TheVariants.{Faulty, Opens, Negotiates, Simple}
-use Rattle.telnet.specs.declared.Kind.TheVariants.{Data as NoEvent, Subnegotiation}
+use Rattle.telnet.specs.declared.Kind.TheVariants.{Subnegotiation}
 use Rattle.telnet.specs.Event.{subnegotiation, lead, iac, se, payload_limit}
 use Rattle.telnet.specs.Whole.{data', iac_seen, closing, Step, step_byte, goes, ended, grown, failed, leads as leads_on}
 use Rattle.telnet_fragments.specs.declared.Fault.TheVariants.{Undoubled}
@@ -28,7 +28,7 @@ use Rattle.telnet_stage.specs.declared.Turn.{Turn}
 use Rattle.telnet_stage.specs.Turn.{turns, leads, after_iac, grows, closes, turn_of}
 use Rattle.octets.proofs.Choice.{choice}
 use Rattle.octets.proofs.Order.{below-or-above}
-use Rattle.refusal.specs.Refusal.{undoubled as undoubled_iac}
+use Rattle.refusal.specs.declared.Refusal.TheVariants.{Undoubled as UndoubledIac}
 
 -- what a fragment gives whose first byte is b, by what is to be done with that byte: s and m are the stage and count
 -- that it leads to, n is the count before, and p the array
@@ -92,8 +92,8 @@ turn-taken (Payload o) n p b rest h = go (eqb b iac) (grown-turned o n p b rest 
 turn-taken (Closing o) n p b rest h = go (eqb b iac) (eqb b se) (grown-turned o n p b rest h)
   where
     go : (t u : Bool) → stepped (grown o (take n p) b) rest ≡ turned (grows o n) n p b rest
-        → stepped (if t then grown o (take n p) b else if u then goes (subnegotiation o (take n p) ∷ []) (data' []) else goes [] (failed undoubled_iac)) rest
-        ≡ turned (if t then grows o n else if u then turns Data n (Stops (Subnegotiation o)) else turns (Failed Undoubled) n (Stops NoEvent)) n p b rest
+        → stepped (if t then grown o (take n p) b else if u then goes (subnegotiation o (take n p) ∷ []) (data' []) else goes [] (failed UndoubledIac)) rest
+        ≡ turned (if t then grows o n else if u then turns Data n (Stops (Some (Subnegotiation o))) else turns (Failed Undoubled) n (Stops None)) n p b rest
     go true u e = e
     go false true e = refl
     go false false e = refl

@@ -1,5 +1,6 @@
 -- The laws that each way out of the writer cites: doubling as a mark, stores in a row, and what an event's writing
 -- answers. Assumes nothing.
+use Rattle.std.specs.Prelude.{Ok, Err}
 use mathlib.Core.Path.{◌≡◌, refl, sym, ap, ◌∙◌}
 use mathlib.Core.Bool.{Bool, true, false}
 use mathlib.Core.Logic.{⊎_elim}
@@ -10,7 +11,6 @@ use lib.Dec.{eqb}
 use lib.ListN.{length, set, length-append}
 use lib.Seq.{sets}
 use borrow.Author.Tests.{le-leb, lt-leb, eqb-true, eqb-false}
-use Rattle.refusal.specs.declared.Written.TheVariants.{Wrote, Refused}
 use Rattle.telnet.specs.Event.{Event, run, subnegotiation, iac, sb, se}
 use Rattle.telnet.specs.Write.{doubled, written, writable}
 use Rattle.telnet_writer.specs.Promise.{write_of, unwritable}
@@ -21,7 +21,7 @@ use Rattle.octets.proofs.Order.{below-or-above}
 use Rattle.octets.specs.Lent.{outcome, overwrite}
 use Rattle.octets.proofs.Overwrite.{length-overwrite, overwrite-append, stored, stored-pair}
 use Rattle.octets.proofs.Promise.{front-short, front_fits}
-use Rattle.refusal.specs.Refusal.{no_room}
+use Rattle.refusal.specs.declared.Refusal.TheVariants.{NoRoom}
 
 -- doubling is a mark of 255 before each 255
 pub doubled-marked : (d : List ℕ) → doubled d ≡ marked iac iac iac d
@@ -69,32 +69,32 @@ run-full (b ∷ d) n = refl
 
 -- what the writing of an event answers
 module _ (e : Event) (out : List ℕ) where
-  pub not_written : writable e ≡ false → outcome (Refused (unwritable e)) out ≡ write_of e out
+  pub not_written : writable e ≡ false → outcome (Err (unwritable e)) out ≡ write_of e out
   unfolding write_of
   not_written w = rw w
 
-  pub not-fitting : writable e ≡ true → length out < length (written e) → outcome (Refused no_room) out ≡ write_of e out
+  pub not-fitting : writable e ≡ true → length out < length (written e) → outcome (Err NoRoom) out ≡ write_of e out
   unfolding write_of
   not-fitting w h = rw w (sym (front-short _ _ (written e) out h))
 
   pub fitting : writable e ≡ true → length (written e) ≤ length out
-      → {n : ℕ} → n ≡ length (written e) → {l : List ℕ} → l ≡ overwrite out 0 (written e) → outcome (Wrote n) l ≡ write_of e out
+      → {n : ℕ} → n ≡ length (written e) → {l : List ℕ} → l ≡ overwrite out 0 (written e) → outcome (Ok n) l ≡ write_of e out
   unfolding write_of
   fitting w h g k = rw (w, g, k) (sym (front_fits _ _ (written e) out h))
 
 -- a run that was put, by the place after it
 module _ (d out : List ℕ) (full : length d ≡ 0 → ⊥) (n : ℕ) (l : List ℕ) (e : outcome n l ≡ put_marked iac iac iac d out 0) where
-  pub run-not-fitting : n ≡ 0 → outcome (Refused no_room) l ≡ write_of (run d) out
+  pub run-not-fitting : n ≡ 0 → outcome (Err NoRoom) l ≡ write_of (run d) out
   unfolding written
   run-not-fitting z = ⊎_elim
-      (λ less. ap (outcome (Refused no_room)) (put-none iac iac iac d out 0 (doubled d) (doubled-marked d) (omega arith) e).1
+      (λ less. ap (outcome (Err NoRoom)) (put-none iac iac iac d out 0 (doubled d) (doubled-marked d) (omega arith) e).1
       ∙ not-fitting (run d) out (run-full d full) less)
       (λ more.
       let whole = put_whole iac iac iac d out 0 (doubled d) (doubled-marked d) (omega arith) e in
       absurd (full (omega (arith, whole.0, marked-size iac iac iac d, ap length (doubled-marked d)))))
       (below-or-above (length out) (length (doubled d)))
 
-  pub run-fitting : (n ≡ 0 → ⊥) → outcome (Wrote n) l ≡ write_of (run d) out
+  pub run-fitting : (n ≡ 0 → ⊥) → outcome (Ok n) l ≡ write_of (run d) out
   unfolding written
   run-fitting z = ⊎_elim
       (λ less. absurd (z (put-none iac iac iac d out 0 (doubled d) (doubled-marked d) (omega arith) e).0))

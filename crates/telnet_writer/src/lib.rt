@@ -3,87 +3,72 @@
 #![tactic(auto)]
 
 ghost use Rattle.std.specs.Prelude.{◌≡◌};
-ghost use Rattle.telnet.specs.Event.{event, code, run, command, negotiation, subnegotiation};
+ghost use Rattle.telnet.specs.Event.{event, run, command, negotiation, subnegotiation};
 ghost use Rattle.telnet.specs.Write.{is_simple};
 ghost use Rattle.telnet_writer.specs.Promise.{write_of};
+ghost use Rattle.refusal.specs.Written.{written_into};
 ghost use Rattle.octets.specs.Lent.{outcome};
 
-use refusal::Written;
-use telnet::{DO, DONT, EOR, IAC, Kind, PAYLOAD_LIMIT, SB, SE, Verb, WILL, WONT};
+use refusal::Refusal;
+use telnet::{EOR, IAC, Kind, PAYLOAD_LIMIT, SB, SE, Verb};
 
-fn code_of(verb: Verb) -> u8
-    ensures { result ≡ code verb }
-{
-    match verb {
-        Verb::Will => WILL,
-        Verb::Wont => WONT,
-        Verb::Do => DO,
-        Verb::Dont => DONT,
-    }
-}
-
+#[tactic(auto, unfolding(telnet::specs::Write::is_simple))]
 fn is_simple(c: u8) -> bool
     ensures { result ≡ is_simple c }
 {
-    if c == EOR {
-        return true;
-    }
-    if c < 241 {
-        return false;
-    }
-    c <= 249
+    matches!(c, EOR | 241..=249)
 }
 
-fn write_run(bytes: &[u8], out: &mut [u8]) -> Written
+// Writes bytes to the front of the buffer, where they fit.
+fn write_bytes(bytes: &[u8], out: &mut [u8]) -> Result<usize, Refusal>
+    ensures { outcome result out.new ≡ written_into bytes.now out.old }
+{
+    if !octets::put(bytes, out, 0) {
+        return Err(Refusal::NoRoom);
+    }
+    Ok(bytes.len())
+}
+
+fn write_run(bytes: &[u8], out: &mut [u8]) -> Result<usize, Refusal>
     ensures { outcome result out.new ≡ write_of (run bytes.now) out.old }
 {
     if bytes.len() == 0 {
-        return Written::Refused(refusal::NOT_WRITABLE);
+        return Err(Refusal::NotWritable);
     }
     // `put_marked` answers `at` where the text does not fit; a run is not empty, so 0 means nothing else.
     let n = octets_marked::put_marked(bytes, IAC, IAC, IAC, out, 0);
     if n == 0 {
-        return Written::Refused(refusal::NO_ROOM);
+        return Err(Refusal::NoRoom);
     }
-    Written::Wrote(n)
+    Ok(n)
 }
 
-fn write_command(c: u8, out: &mut [u8]) -> Written
+#[tactic(auto, unfolding(crate::specs::Promise::write_of, crate::specs::Promise::unwritable, telnet::specs::Write::writable, telnet::specs::Write::written))]
+fn write_command(c: u8, out: &mut [u8]) -> Result<usize, Refusal>
     ensures { outcome result out.new ≡ write_of (command c) out.old }
 {
     if !is_simple(c) {
-        return Written::Refused(refusal::NOT_WRITABLE);
+        return Err(Refusal::NotWritable);
     }
-    if out.len() < 2 {
-        return Written::Refused(refusal::NO_ROOM);
-    }
-    out[0] = IAC;
-    out[1] = c;
-    Written::Wrote(2)
+    write_bytes(&[IAC, c], out)
 }
 
-fn write_negotiation(verb: Verb, option: u8, out: &mut [u8]) -> Written
+#[tactic(auto, unfolding(crate::specs::Promise::write_of, crate::specs::Promise::unwritable, telnet::specs::Write::writable, telnet::specs::Write::written))]
+fn write_negotiation(verb: Verb, option: u8, out: &mut [u8]) -> Result<usize, Refusal>
     ensures { outcome result out.new ≡ write_of (negotiation verb option) out.old }
 {
-    let c = code_of(verb);
-    if out.len() < 3 {
-        return Written::Refused(refusal::NO_ROOM);
-    }
-    out[0] = IAC;
-    out[1] = c;
-    out[2] = option;
-    Written::Wrote(3)
+    write_bytes(&[IAC, verb.code(), option], out)
 }
 
-fn write_subnegotiation(option: u8, payload: &[u8], out: &mut [u8]) -> Written
+fn write_subnegotiation(option: u8, payload: &[u8], out: &mut [u8]) -> Result<usize, Refusal>
     ensures { outcome result out.new ≡ write_of (subnegotiation option payload.now) out.old }
 {
     if PAYLOAD_LIMIT < payload.len() {
-        return Written::Refused(refusal::PAYLOAD_TOO_LONG);
+        return Err(Refusal::PayloadTooLong);
     }
     let end = 3 + octets_marked::marked_length(payload, IAC, IAC);
     if out.len() < end + 2 {
-        return Written::Refused(refusal::NO_ROOM);
+        return Err(Refusal::NoRoom);
     }
     out[0] = IAC;
     out[1] = SB;
@@ -91,12 +76,12 @@ fn write_subnegotiation(option: u8, payload: &[u8], out: &mut [u8]) -> Written
     octets_marked::put_marked(payload, IAC, IAC, IAC, out, 3);
     out[end] = IAC;
     out[end + 1] = SE;
-    Written::Wrote(end + 2)
+    Ok(end + 2)
 }
 
 // Writes an event to the front of the buffer; the bytes that it carries are in `payload`. A refusal leaves the buffer
 // as it was.
-pub fn write(kind: Kind, payload: &[u8], out: &mut [u8]) -> Written
+pub fn write(kind: Kind, payload: &[u8], out: &mut [u8]) -> Result<usize, Refusal>
     ensures { outcome result out.new ≡ write_of (event kind payload.now) out.old }
 {
     match kind {

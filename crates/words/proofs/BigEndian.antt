@@ -1,12 +1,12 @@
 -- The laws of bytes: how many they are, that they say nothing of what is above them, that they stand for the number
 -- they are of, and the number of one byte more. Assumes nothing.
 use mathlib.Core.Path.{◌≡◌, refl, sym, ap, ap₂, ◌∙◌}
-use mathlib.Core.List.{List, [], ◌∷◌, ◌++◌}
+use mathlib.Core.List.{List, [], ◌∷◌}
 use Prim.Native.Nat.{ℕ, zero, suc, ◌+◌, ◌*◌, ◌/◌, ◌%◌, ◌^◌, ◌≤◌, ◌<◌}
 use native.Mathlib.Nat.{mod-one, mod-eq_of_lt, mul_assoc, mul-le-mul_right, add-mul}
 use native.Mathlib.Omega.{arith}
 use lib.Bits.{bit_or, or_shifted}
-use lib.ListN.{length, length-append}
+use lib.ListN.{length}
 use lib.Pow.{pow-add, pow_mono, mod-pow-add, field, mod-mod-pow, high, low}
 use Rattle.octets.specs.Bytes.{Bytes}
 use Rattle.words.specs.BigEndian.{number, bytes}
@@ -48,12 +48,9 @@ weight k =
     let e : 8 * suc k ≡ 8 * k + 8 = omega arith in
     rw (e, pow-add 2 (8 * k) 8)
 
--- a byte more after the others
-pub number-snoc : (l : List ℕ) (b : ℕ) → number (l ++ b ∷ []) ≡ number l * 256 + b
-number-snoc [] b = omega arith
-number-snoc (x ∷ xs) b =
-    let e : length (xs ++ b ∷ []) ≡ suc (length xs) = rw length-append (omega arith) in
-    rw (e, weight (length xs), number-snoc xs b) (omega (arith, mul_assoc x (2 ^ (8 * length xs)) 256))
+-- a number before bytes, of which the first goes over to it
+pub number-more : (n b : ℕ) (l : List ℕ) → (n * 256 + b) * 2 ^ (8 * length l) + number l ≡ n * 2 ^ (8 * length (b ∷ l)) + number (b ∷ l)
+number-more n b l = rw (weight (length l), add-mul (n * 256) b (2 ^ (8 * length l)), mul_assoc n 256 (2 ^ (8 * length l))) (omega arith)
 
 -- a number of i bytes shifted by one byte within a word of eight, and a byte put after it
 pub joined-byte : (n b i : ℕ) → n < 2 ^ (8 * i) → i < 8 → b < 256 → bit_or (n * 256 % 2 ^ 64) b ≡ n * 256 + b

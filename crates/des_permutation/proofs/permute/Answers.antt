@@ -1,5 +1,5 @@
--- `des_permutation::permute` meets its contract: the bits still to be taken, after those that were, give the whole. The
--- measure is `length places - i`. Assumes nothing.
+-- `des_permutation::permute` meets its contract: the bits still to be taken, after those that were, give the whole.
+-- Assumes nothing.
 use mathlib.Core.Path.{◌≡◌, sym, ◌∙◌}
 use mathlib.Core.List.{List}
 use Prim.Native.Nat.{ℕ, ◌+◌, ◌-◌, ◌*◌, ◌/◌, ◌%◌, ◌^◌, ◌≤◌, ◌<◌}
@@ -14,7 +14,7 @@ use borrow.Author.Rules.{rules}
 use Rattle.des.specs.Blocks.{bit, continued, permuted}
 use Rattle.des_permutation.proofs.Places.{within-at}
 use Rattle.des_permutation.proofs.permute.Invariants.{rest}
-use Rattle.des_permutation.proofs.permute.Goals.{After-shared_slice_known-1}
+use Rattle.des_permutation.proofs.permute.Goals.{After-from-p}
 use Rattle.des_permutation.proofs.permute.Goals as goal
 
 -- one bit more after a number of i bits
@@ -33,44 +33,34 @@ unfolding continued
 one_more w x a l i h = rw (add-one, drop-cons l i 0)
 
 -- the place that a turn reads
-placed : (c : After-shared_slice_known-1)
-    → (1 ≤ get_or c.args.places.now c.loop-i.i 0)
-    × (get_or c.args.places.now c.loop-i.i 0 ≤ c.args.width)
+placed : (c : After-from-p) → (1 ≤ c.from-p.result) × (c.from-p.result ≤ c.args.width)
 placed c =
-    let a = c.args in
-    within-at a.width a.places.now c.requires.2 c.loop-i.i (omega arith)
+    rw c.from-p.ensures (within-at c.args.width c.args.places.now c.requires.2 c.loop-p.p-index c.loop-p-test.true)
 
-pub loop-i-init : goal.loop-i-init
+pub loop-p-init : goal.loop-p-init
 unfolding permuted
-loop-i-init c = search rules
-
-pub overflow_cast-p : goal.overflow_cast-p
-overflow_cast-p c = omega (arith, placed (goal.at.overflow_cast-p c).After-shared_slice_known-1)
+loop-p-init c = search rules
 
 pub overflow_sub-out : goal.overflow_sub-out
-overflow_sub-out c = omega (arith, placed (goal.at.overflow_sub-out c).After-shared_slice_known-1)
-
-pub overflow_cast-out : goal.overflow_cast-out
-overflow_cast-out c = omega (arith, placed (goal.at.overflow_cast-out c).After-shared_slice_known-1)
+overflow_sub-out c = (placed c).1
 
 pub overflow_shr-out : goal.overflow_shr-out
-overflow_shr-out c = omega (arith, placed (goal.at.overflow_shr-out c).After-shared_slice_known-1)
+overflow_shr-out c = omega (arith, placed c)
 
-pub loop-i-preserved : goal.loop-i-preserved
-loop-i-preserved c =
+pub loop-p-preserved : goal.loop-p-preserved
+loop-p-preserved c =
     let a = c.args in
-    let l = c.loop-i in
-    let b = bit a.width a.x (get_or a.places.now l.i 0) in
-    let e : bit_or (l.out * 2 % 2 ^ 64) (bit_and (a.x / 2 ^ (a.width - get_or a.places.now l.i 0)) 1) ≡ l.out * 2 + b =
-    after l.out (a.x / 2 ^ (a.width - get_or a.places.now l.i 0)) l.i l.invariant.1 (omega arith) in (
-      omega arith,
-      rw e (room l.out b l.i l.invariant.1 (omega arith)),
-      rw e (sym (one_more a.width a.x l.out a.places.now l.i (omega arith)) ∙ l.invariant.2),
+    let l = c.loop-p in
+    let p = get_or a.places.now l.p-index 0 in
+    let b = bit a.width a.x p in
+    let e : bit_or (l.out * 2 % 2 ^ 64) (bit_and (a.x / 2 ^ (a.width - c.from-p.result)) 1) ≡ l.out * 2 + b =
+    rw c.from-p.ensures (after l.out (a.x / 2 ^ (a.width - p)) l.p-index l.invariant.0 (omega arith)) in (
+      rw e (room l.out b l.p-index l.invariant.0 (omega arith)),
+      rw e (sym (one_more a.width a.x l.out a.places.now l.p-index c.loop-p-test.true) ∙ l.invariant.1),
     )
 
 pub returns : goal.returns
 unfolding continued
 returns c =
-    let l = c.loop-i in
-    let e : length c.args.places.now ≤ l.i = omega arith in
-    rw (drop_of_length-le c.args.places.now {i = l.i} e) at l.invariant.2
+    let l = c.loop-p in
+    rw (drop_of_length-le c.args.places.now {i = l.p-index} c.loop-p-test.false) at l.invariant.1

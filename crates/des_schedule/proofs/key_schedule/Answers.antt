@@ -1,5 +1,5 @@
 -- `des_schedule::key_schedule` meets its contract: the round keys made so far, followed by those that C and D still
--- give, are the whole. The measure is `16 - i`. Assumes nothing.
+-- give, are the whole. Assumes nothing.
 use mathlib.Core.Path.{◌≡◌, refl, sym, ap, ◌∙◌}
 use mathlib.Core.List.{List, [], ◌∷◌, ◌++◌, append-nil, append_assoc}
 use Prim.Native.Nat.{ℕ, ◌+◌, ◌*◌, ◌/◌, ◌%◌, ◌^◌, ◌≤◌, ◌<◌}
@@ -37,7 +37,6 @@ loop-i-init c =
     let e : start ≡ permuted 64 PC-1 c.args.key = c.permuted_choice_1-start.ensures in
     let h : start < 2 ^ 56 = rw e (permuted-lt 64 PC-1 c.args.key) in (
       omega arith,
-      omega arith,
       mask_lt start 28,
       refl,
       ap (λ n. keys_from (start / 2 ^ 28) n shifts) (and_mask start 28) ∙ rw e (first c.args.key),
@@ -49,13 +48,12 @@ loop-i-preserved c =
     let n : c.shift_at-n.result ≡ get_or shifts l.i 0 = c.shift_at-n.ensures.0 in
     let f : c.rotate-c.result ≡ rotated (get_or shifts l.i 0) l.c = c.rotate-c.ensures.0 ∙ rw n in
     let g : c.rotate-d.result ≡ rotated (get_or shifts l.i 0) l.d = c.rotate-d.ensures.0 ∙ rw n in (
-      omega arith,
       c.rotate-c.ensures.1,
       c.rotate-d.ensures.1,
-      length-set l.keys l.i c.key_of.result ∙ l.invariant.3,
+      length-set l.keys l.i c.key_of.result ∙ l.invariant.2,
       stored l.keys l.i c.key_of.result _ (omega arith)
           ∙ ap (λ ks. take l.i l.keys ++ ks) (rw (c.key_of.ensures, f, g) (sym (one_more l.c l.d l.i (omega arith))))
-          ∙ l.invariant.4,
+          ∙ l.invariant.3,
     )
 
 pub returns : goal.returns
@@ -64,4 +62,4 @@ returns c =
     let l = c.loop-i in
     let e : l.i ≡ 16 = omega arith in
     let h : length l.keys ≤ 16 = omega arith in
-    sym (append-nil l.keys) ∙ ap (λ ks. ks ++ []) (sym (take_all 16 l.keys h)) ∙ rw e at l.invariant.4
+    sym (append-nil l.keys) ∙ ap (λ ks. ks ++ []) (sym (take_all 16 l.keys h)) ∙ rw e at l.invariant.3

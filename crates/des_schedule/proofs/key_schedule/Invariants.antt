@@ -1,6 +1,6 @@
 use mathlib.Core.Path.{◌≡◌}
 use mathlib.Core.List.{◌++◌}
-use Prim.Native.Nat.{◌-◌, ◌^◌, ◌≤◌, ◌<◌}
+use Prim.Native.Nat.{◌^◌, ◌<◌}
 use lib.ListN.{length, take, drop}
 use Rattle.des.specs.Schedule.{keys_from, round_keys}
 use Rattle.des.specs.Tables.{shifts}
@@ -8,7 +8,4 @@ use Rattle.des_schedule.proofs.key_schedule.Given as goal
 
 abbrev pub invariant-loop-i : goal.invariant-loop-i
 invariant-loop-i l =
-    (l.i ≤ 16) × (l.c < 2 ^ 28) × (l.d < 2 ^ 28) × (length l.keys ≡ 16) × (take l.i l.keys ++ keys_from l.c l.d (drop l.i shifts) ≡ round_keys l.key)
-
-abbrev pub decreases-loop-i : goal.decreases-loop-i
-decreases-loop-i l = 16 - l.i
+    (l.c < 2 ^ 28) × (l.d < 2 ^ 28) × (length l.keys ≡ 16) × (take l.i l.keys ++ keys_from l.c l.d (drop l.i shifts) ≡ round_keys l.key)

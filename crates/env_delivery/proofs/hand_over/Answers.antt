@@ -1,8 +1,7 @@
 -- `env_delivery::hand_over` meets its contract: its ways out are those of `hand_over`. Assumes nothing.
 use mathlib.Core.Path.{sym}
 use native.Mathlib.Omega.{arith}
-use Rattle.octets.proofs.Promise.{put_whole}
-use Rattle.env_delivery.proofs.Handing.{handed-no-bytes, handed-no-numbers, handed-all}
+use Rattle.env_delivery.proofs.Handing.{handed-no-bytes, handed-no-numbers, handed-all, copied}
 use Rattle.env_delivery.proofs.hand_over.Goals as goal
 
 pub returns-then-bytes-texts : goal.returns-then-bytes-texts
@@ -18,7 +17,6 @@ returns-then-numbers-records c =
 pub returns : goal.returns
 returns c =
     let a = c.args in
-    let x = a.texts.now in
-    let texts = put_whole x a.bytes.now 0 (omega arith) c.put.ensures in
-    let records = c.copy_numbers.ensures in
-    rw (texts, records) (sym (handed-all a.first x a.records.now a.bytes.now a.numbers.now (omega arith) (omega arith)))
+    let texts = copied _ a.texts.now a.bytes.now c.copy_from_slice.ensures.after in
+    let records = copied _ a.records.now a.numbers.now c.copy_from_slice-2.ensures.after in
+    rw (texts, records) (sym (handed-all a.first a.texts.now a.records.now a.bytes.now a.numbers.now (omega arith) (omega arith)))

@@ -1,5 +1,4 @@
 -- `env_list::set` meets its contract, by the test of the place. Assumes nothing.
-use native.Mathlib.Omega.{arith}
 use borrow.Author.Tests.{lt-ltb, le-ltb}
 use lib.ListN.{length}
 use Rattle.env_list.specs.Lists.{set_at}

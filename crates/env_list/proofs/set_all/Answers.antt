@@ -1,9 +1,7 @@
-use mathlib.Core.Path.{◌≡◌, refl, ap, ◌∙◌}
-use Prim.Native.Nat.{◌≤◌}
+use mathlib.Core.Path.{◌≡◌, refl}
 use native.Mathlib.Omega.{arith}
-use lib.ListN.{set}
 use Rattle.env_list.specs.Internal.Firsts.{first_records}
-use Rattle.env_list.proofs.Firsts.{begun, begun_more}
+use Rattle.env_list.proofs.Firsts.{begun_more}
 use Rattle.env_list.proofs.set_all.Goals as goal
 
 pub loop-k-init : goal.loop-k-init

@@ -1,5 +1,5 @@
 -- `env_search::find` meets its contract. The loop's invariant: the place that the records from i on give is the one
--- that all give. The measure is how many are left. Assumes nothing.
+-- that all give. Assumes nothing.
 use mathlib.Core.Path.{◌≡◌, sym, ◌∙◌}
 use mathlib.Core.Bool.{Bool, true, false}
 use native.Mathlib.Omega.{arith}

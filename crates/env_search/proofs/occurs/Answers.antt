@@ -1,5 +1,5 @@
 -- `env_search::occurs` meets its contract. The loop's invariant: a record of the kind and name is among those from i
--- on if one is among those from `from` on. The measure is how many are left. Assumes nothing.
+-- on if one is among those from `from` on. Assumes nothing.
 use mathlib.Core.Path.{◌≡◌, sym, ◌∙◌}
 use mathlib.Core.Bool.{Bool, true, false}
 use native.Mathlib.Omega.{arith}

@@ -1,6 +1,6 @@
 use mathlib.Core.Path.{◌≡◌}
-use Prim.Native.Nat.{◌*◌, ◌/◌, ◌-◌}
-use lib.ListN.{length, drop}
+use Prim.Native.Nat.{◌*◌}
+use lib.ListN.{drop}
 use Rattle.env.specs.Variable.{among}
 use Rattle.env.specs.Numbers.{record_width, variables_held}
 use Rattle.env_search.proofs.occurs.Given as goal
@@ -8,6 +8,3 @@ use Rattle.env_search.proofs.occurs.Given as goal
 abbrev pub invariant-loop-i : goal.invariant-loop-i
 invariant-loop-i l =
     among l.kind l.name (variables_held l.bytes (drop (record_width * l.i) l.numbers)) ≡ among l.kind l.name (variables_held l.bytes (drop (record_width * l.from) l.numbers))
-
-abbrev pub decreases-loop-i : goal.decreases-loop-i
-decreases-loop-i l = length l.numbers / record_width - l.i

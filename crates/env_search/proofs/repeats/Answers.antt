@@ -1,5 +1,5 @@
 -- `env_search::repeats` meets its contract. The loop's invariant: there is a repeat among the records from i on if
--- there is one among all. The measure is how many are left. Assumes nothing.
+-- there is one among all. Assumes nothing.
 use mathlib.Core.Path.{sym, ◌∙◌}
 use native.Mathlib.Omega.{arith}
 use Rattle.env_search.proofs.SearchSteps.{repeated-step, repeated-end}

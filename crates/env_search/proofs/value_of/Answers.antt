@@ -6,18 +6,18 @@ use Rattle.env_search.specs.Theorems.{value_at}
 use Rattle.env_search.proofs.Found.{value_found}
 use Rattle.env_search.proofs.value_of.Goals as goal
 
-pub returns-in-Absent : goal.returns-in-Absent
+pub returns-in-None : goal.returns-in-None
 unfolding value_or value_at part
-returns-in-Absent c =
+returns-in-None c =
     let s = c.args in
     let f = c.find in
     c.part.ensures
-    ∙ value_found s.kind s.name.now s.bytes.now s.numbers.now f.result _ f.ensures c.in-Absent.is
+    ∙ value_found s.kind s.name.now s.bytes.now s.numbers.now f.result _ f.ensures c.in-None.is
 
-pub returns-in-At : goal.returns-in-At
+pub returns-in-Some : goal.returns-in-Some
 unfolding value_or value_at
-returns-in-At c =
+returns-in-Some c =
     let s = c.args in
     let f = c.find in
-    c.part-in-At.ensures
-    ∙ value_found s.kind s.name.now s.bytes.now s.numbers.now f.result _ f.ensures c.in-At.is
+    c.part-in-Some.ensures
+    ∙ value_found s.kind s.name.now s.bytes.now s.numbers.now f.result _ f.ensures c.in-Some.is

@@ -1,5 +1,5 @@
 -- `env_text::copy_text` meets its contract. The loop's invariant: what the text still has from here, put after what was
--- copied, gives the whole copy. The measure is how many bytes are still to come. Assumes nothing.
+-- copied, gives the whole copy. Assumes nothing.
 use mathlib.Core.Path.{◌≡◌, refl, sym, ◌∙◌}
 use Prim.Native.Nat.{◌+◌, ◌-◌}
 use native.Mathlib.Nat.{add-zero, sub-zero}

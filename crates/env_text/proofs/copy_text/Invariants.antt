@@ -12,6 +12,3 @@ left s i n = take n (text_of (drop i s)).bytes
 abbrev pub invariant-loop-k : goal.invariant-loop-k
 invariant-loop-k l =
     (l.k ≤ l.count) × (l.at + l.count ≤ length l.initial.out) × (length l.out ≡ length l.initial.out) × (overwrite l.out (l.at + l.k) (left l.s l.i (l.count - l.k)) ≡ overwrite l.initial.out l.at (left l.s l.from l.count))
-
-abbrev pub decreases-loop-k : goal.decreases-loop-k
-decreases-loop-k l = l.count - l.k

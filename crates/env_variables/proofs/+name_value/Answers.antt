@@ -1,10 +1,10 @@
 -- Each way through a reader of names or of values is one of the laws of the turns.
-use Rattle.std.proofs.Common.{rules, true, ◌≡◌, ◌+◌, ◌<◌, length, ℕ, slice_index_or, get_or, drop, sym, ◌∙◌, arith}
+use Rattle.std.proofs.Common.{rules, true, ◌≡◌, ◌<◌, get_or, drop, sym, ◌∙◌, arith}
 use borrow.Author.Tests.{not-true, not-false}
 use Rattle.env.specs.Variable.{is_kind, variable_limit}
-use Rattle.refusal.specs.Refusal.{no_variable, bad_escape, too_many_variables}
+use Rattle.refusal.specs.declared.Refusal.TheVariants.{NoVariable, BadEscape, TooManyVariables}
 use Rattle.env_variables.specs.Internal.Found.{buffers}
-use Rattle.env_text.specs.Text.{text_of, ends_text}
+use Rattle.env_text.specs.Text.{text_of}
 use Rattle.octets.proofs.Front.{empty, to_the_end}
 use Rattle.env_variables.proofs.Turning.{from-nil, from-value, from-other, from-kind, names-full, names-broken, names-empty, name-none, name-fault, name-turn}
 use Rattle.env_variables.proofs.Turning.{value-turn, value-fault}
@@ -24,13 +24,13 @@ pub name-returns-then-not-opens : goal.name-returns-then-not-opens
 name-returns-then-not-opens t c =
     let a = c.args in
     let other = sym c.opens.ensures ∙ c.if-not-opens.true in
-    name-fault _ no_variable a.at a.k _ _ (from-other a.fault a.k a.rest.now (omega arith) c.if-kind-eq-VALUE.false other)
+    name-fault _ NoVariable a.at a.k _ _ (from-other a.fault a.k a.rest.now (omega arith) c.if-kind-eq-VALUE.false other)
 
 pub name-returns-then-k-eq-VARIABLE_LIMIT : goal.name-returns-then-k-eq-VARIABLE_LIMIT
 name-returns-then-k-eq-VARIABLE_LIMIT t c =
     let a = c.args in
     let here : is_kind (get_or a.rest.now 0 0) ≡ true = sym c.opens.ensures ∙ c.if-not-opens.false in
-    name-fault _ too_many_variables a.at a.k _ _
+    name-fault _ TooManyVariables a.at a.k _ _
     (from-kind a.fault a.k a.rest.now (omega arith) here ∙ names-full a.fault a.k _ _ _ (omega arith))
 
 pub name-returns-then-not-t : goal.name-returns-then-not-t
@@ -39,7 +39,7 @@ name-returns-then-not-t t c =
     let here : is_kind (get_or a.rest.now 0 0) ≡ true = sym c.opens.ensures ∙ c.if-not-opens.false in
     let few : a.k < variable_limit = omega arith in
     let bad = c.take_text-t.ensures.bad (not-true c.take_text-t.result.whole c.if-not-t.true) in
-    name-fault _ bad_escape a.at a.k _ _
+    name-fault _ BadEscape a.at a.k _ _
     (from-kind a.fault a.k a.rest.now (omega arith) here ∙ rw bad (names-broken a.fault a.k _ _ few))
 
 pub name-returns-then-t-eq0 : goal.name-returns-then-t-eq0
@@ -50,7 +50,7 @@ name-returns-then-t-eq0 t c =
     let took = c.take_text-t.ensures in
     let good = took.good (not-false c.take_text-t.result.whole c.if-not-t.false) in
     let none = empty (text_of (drop 1 a.rest.now)).bytes (omega (arith, took.count, c.if-t-eq0.true)) in
-    name-fault _ no_variable a.at a.k _ _
+    name-fault _ NoVariable a.at a.k _ _
     (from-kind a.fault a.k a.rest.now (omega arith) here ∙ rw (good, none) (names-empty a.fault a.k _ _ few))
 
 pub name-value-requires : goal.name-value-requires
@@ -69,7 +69,7 @@ pub value-returns-then-not-t : goal.value-returns-then-not-t
 value-returns-then-not-t t c =
     let a = c.args in
     let bad = c.take_value-t.ensures.bad (not-true c.take_value-t.result.whole c.if-not-t.true) a.k in
-    value-fault _ bad_escape a.kind a.at a.n a.k _ _ bad
+    value-fault _ BadEscape a.kind a.at a.n a.k _ _ bad
 
 pub value-name-requires : goal.value-name-requires
 value-name-requires t c = (search rules, search rules)

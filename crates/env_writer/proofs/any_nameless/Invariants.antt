@@ -1,8 +1,8 @@
 use mathlib.Core.Path.{◌≡◌}
 use mathlib.Core.Bool.{true}
 use mathlib.Core.List.{List}
-use Prim.Native.Nat.{ℕ, ◌-◌, ◌*◌, ◌/◌}
-use lib.ListN.{length, drop}
+use Prim.Native.Nat.{ℕ, ◌*◌}
+use lib.ListN.{drop}
 use Rattle.env.specs.Write.{nameless}
 use Rattle.env.specs.Numbers.{record_width, variables_held, placed}
 use Rattle.env_writer.proofs.any_nameless.Given as goal
@@ -11,6 +11,3 @@ abbrev pub invariant-loop-i : goal.invariant-loop-i
 invariant-loop-i l =
     (bytes : List ℕ) → placed bytes l.numbers ≡ true
     → (placed bytes (drop (record_width * l.i) l.numbers) ≡ true) × (nameless (variables_held bytes l.numbers) ≡ nameless (variables_held bytes (drop (record_width * l.i) l.numbers)))
-
-abbrev pub decreases-loop-i : goal.decreases-loop-i
-decreases-loop-i l = length l.numbers / record_width - l.i

@@ -1,6 +1,6 @@
 use mathlib.Core.Path.{◌≡◌}
 use mathlib.Core.Bool.{true}
-use Prim.Native.Nat.{◌+◌, ◌-◌, ◌*◌, ◌/◌, min, ◌≤◌}
+use Prim.Native.Nat.{◌+◌, ◌*◌, min, ◌≤◌}
 use lib.ListN.{length, drop}
 use Rattle.env.specs.Write.{written_variables}
 use Rattle.env.specs.Numbers.{record_width, variables_held, placed}
@@ -12,6 +12,3 @@ invariant-loop-i l =
     (l.n ≤ payload_limit + 1) × (placed l.bytes (drop (record_width * l.i) l.numbers) ≡ true)
     × (min (payload_limit + 1) (l.n + length (written_variables (variables_held l.bytes (drop (record_width * l.i) l.numbers))))
     ≡ min (payload_limit + 1) (1 + length (written_variables (variables_held l.bytes l.numbers))))
-
-abbrev pub decreases-loop-i : goal.decreases-loop-i
-decreases-loop-i l = length l.numbers / record_width - l.i

@@ -1,8 +1,7 @@
--- `env_writer::put_all` meets its contract: what is left to write, written where the loop is, gives the whole. The
--- measure is `length numbers / record_width - i`. Assumes nothing.
+-- `env_writer::put_all` meets its contract: what is left to write, written where the loop is, gives the whole. Assumes
+-- nothing.
 use mathlib.Core.Path.{◌≡◌, refl, sym, ap, ap₂, ◌∙◌}
-use mathlib.Core.Bool.{true}
-use Prim.Native.Nat.{◌+◌, ◌*◌}
+use Prim.Native.Nat.{◌+◌, ◌*◌, ◌/◌, ◌<◌}
 use native.Mathlib.Omega.{arith}
 use lib.ListN.{length, drop}
 use Rattle.env.specs.Write.{written_variable, written_variables}
@@ -20,7 +19,7 @@ pub put_variable-at-requires : goal.put_variable-at-requires
 put_variable-at-requires c =
     let l = c.loop-i in
     let a = c.args in
-    let t = c.loop-i-test.true in
+    let t : l.i < length a.numbers.now / record_width = omega arith in
     let bytes = a.bytes.now in
     let numbers = a.numbers.now in
     let this = c.record_at.ensures in
@@ -34,7 +33,7 @@ loop-i-preserved c =
     let p = c.put_variable-at in
     let l = c.loop-i in
     let a = c.args in
-    let t = c.loop-i-test.true in
+    let t : l.i < length a.numbers.now / record_width = omega arith in
     let bytes = a.bytes.now in
     let numbers = a.numbers.now in
     let this = ap (λ v. written_variable (variable_of bytes v)) c.record_at.ensures in
@@ -55,4 +54,4 @@ returns c =
     let l = c.loop-i in
     let a = c.args in
     sym (overwrite-nil l.out l.at)
-    ∙ ap (overwrite l.out l.at) (sym (written_none a.bytes.now a.numbers.now l.i c.loop-i-test.false)) ∙ l.invariant.3
+    ∙ ap (overwrite l.out l.at) (sym (written_none a.bytes.now a.numbers.now l.i (omega arith))) ∙ l.invariant.3

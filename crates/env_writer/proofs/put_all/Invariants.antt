@@ -1,6 +1,6 @@
 use mathlib.Core.Path.{◌≡◌}
 use mathlib.Core.Bool.{true}
-use Prim.Native.Nat.{◌+◌, ◌-◌, ◌*◌, ◌/◌, ◌≤◌}
+use Prim.Native.Nat.{◌+◌, ◌*◌, ◌≤◌}
 use lib.ListN.{length, drop}
 use Rattle.env.specs.Write.{written_variables}
 use Rattle.env.specs.Numbers.{record_width, variables_held, placed}
@@ -12,6 +12,3 @@ invariant-loop-i l =
     (placed l.bytes (drop (record_width * l.i) l.numbers) ≡ true) × (length l.out ≡ length l.initial.out)
     × (l.at + length (written_variables (variables_held l.bytes (drop (record_width * l.i) l.numbers))) ≤ length l.initial.out)
     × (overwrite l.out l.at (written_variables (variables_held l.bytes (drop (record_width * l.i) l.numbers))) ≡ overwrite l.initial.out 1 (written_variables (variables_held l.bytes l.numbers)))
-
-abbrev pub decreases-loop-i : goal.decreases-loop-i
-decreases-loop-i l = length l.numbers / record_width - l.i

@@ -1,7 +1,7 @@
 -- `export_listing::tv_line` meets its contract: the numbers of what `line` answers on what `look` finds. Assumes
 -- nothing.
 use mathlib.Core.Path.{ap, ◌∙◌}
-use Rattle.telnet_reader.specs.declared.Answer.{Answer}
+use Rattle.telnet_reader.specs.Promise.{Answer}
 use Rattle.telnet_line.specs.Line.{answer_text, line}
 use Rattle.refusal.specs.Written.{written_into}
 use Rattle.export.specs.Numbers.{numbered, written_numbers}

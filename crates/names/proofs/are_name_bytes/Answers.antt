@@ -1,49 +1,17 @@
--- `names::are_name_bytes` meets its contract. The loop's invariant: the bytes from `i` on answer for all of them. The
--- measure is how many are left. Assumes nothing.
-use mathlib.Core.Path.{◌≡◌, refl, sym, ap, ◌∙◌}
-use mathlib.Core.Bool.{true, false, ◌&&◌}
-use mathlib.Core.List.{List, []}
-use Prim.Native.Nat.{ℕ, ◌+◌, ◌<◌}
-use native.Mathlib.Numerals.{add-one}
-use native.Mathlib.Omega.{arith}
-use lib.ListN.{length, get_or, drop, length-map, drop_of_length-le}
-use lib.Seq.{drop-cons}
-use Rattle.names.specs.Range.{every}
-use Rattle.names.specs.Name.{raised_byte, raised, is_name_byte}
-use Rattle.names.proofs.Text.{raised_at}
+-- `names::are_name_bytes` meets its contract: the library's test of all elements, of the bytes raised. Assumes nothing.
+use mathlib.Core.Path.{◌∙◌}
+use mathlib.Core.Bool.{Bool}
+use Prim.Native.Nat.{ℕ}
+use Rattle.std.proofs.lemmas.Iterator.{YieldsList-from_slice}
+use Rattle.std.proofs.lemmas.Iterator.Search.{all_from_yields_List}
+use Rattle.std.proofs.Common.{rules}
+use Rattle.names.specs.Name.{raised_byte, is_name_byte}
+use Rattle.names.proofs.Every.{by_all, every_mapped}
 use Rattle.names.proofs.are_name_bytes.Goals as goal
 
--- the byte at `i`, and those after it
-next : (text : List ℕ) (i : ℕ) → i < length text
-    → every is_name_byte (drop i (raised text)) ≡ (is_name_byte (raised_byte (get_or text i 0)) && every is_name_byte (drop (i + 1) (raised text)))
-unfolding every
-next text i h =
-    let k : i < length (raised text) = simp length-map (omega arith) in
-    rw (drop-cons (raised text) i 0 k, raised_at, add-one)
-
-pub loop-i-init : goal.loop-i-init
-loop-i-init c = (omega arith, refl)
-
-pub returns-then-not-is_name_byte : goal.returns-then-not-is_name_byte
-returns-then-not-is_name_byte c =
-    let l = c.loop-i in
-    let x = c.args.text.now in
-    let bad : is_name_byte (raised_byte (get_or x l.i 0)) ≡ false =
-    sym (ap is_name_byte c.raise.ensures) ∙ sym c.is_name_byte.ensures ∙ c.if-not-is_name_byte.true in
-    sym (sym l.invariant.1 ∙ next x l.i (omega arith) ∙ rw bad)
-
-pub loop-i-preserved : goal.loop-i-preserved
-loop-i-preserved c =
-    let l = c.loop-i in
-    let x = c.args.text.now in
-    let good : is_name_byte (raised_byte (get_or x l.i 0)) ≡ true =
-    sym (ap is_name_byte c.raise.ensures) ∙ sym c.is_name_byte.ensures ∙ c.if-not-is_name_byte.false in
-    (omega arith, sym (next x l.i (omega arith) ∙ rw good) ∙ l.invariant.1)
-
 pub returns : goal.returns
-unfolding every
 returns c =
-    let l = c.loop-i in
-    let x = c.args.text.now in
-    let none : drop l.i (raised x) ≡ [] = drop_of_length-le (raised x) {i = l.i} (simp length-map (omega arith)) in
-    rw (← l.invariant.1, none)
+    let text = c.args.text.now in
+    let test : ℕ → Bool = λ b. is_name_byte (raised_byte b) in
+    all_from_yields_List test _ _ _ c.all.ensures.ran (YieldsList-from_slice text c.iter.ensures.rest) (λ x b q k. search rules)
+    ∙ by_all test text ∙ every_mapped is_name_byte raised_byte text

@@ -1,5 +1,5 @@
--- `names::raised_bytes` meets its contract. The loop's invariant: to put the raised bytes from `i` on after those that
--- are there already gives all of them over zeros. The measure is how many are left. Assumes nothing.
+-- `names::raised_bytes` meets its contract. The loop's invariant: to put the raised bytes from `i` on after those
+-- that are there already gives all of them over zeros. Assumes nothing.
 use mathlib.Core.Path.{◌≡◌, refl, sym, ap, ◌∙◌}
 use mathlib.Core.List.{[]}
 use Prim.Native.Nat.{◌+◌, ◌≤◌, ◌<◌}

@@ -1,5 +1,5 @@
 use mathlib.Core.Path.{◌≡◌}
-use Prim.Native.Nat.{◌-◌, ◌≤◌}
+use Prim.Native.Nat.{◌≤◌}
 use lib.ListN.{length, drop, replicate}
 use Rattle.octets.specs.Lent.{overwrite}
 use Rattle.names.specs.Name.{raised}
@@ -8,6 +8,3 @@ use Rattle.names.proofs.raised_bytes.Given as goal
 abbrev pub invariant-loop-i : goal.invariant-loop-i
 invariant-loop-i l =
     (l.i ≤ length l.text) × (length l.bytes ≡ 10) × (overwrite l.bytes l.i (drop l.i (raised l.text)) ≡ overwrite (replicate 10 0) 0 (raised l.text))
-
-abbrev pub decreases-loop-i : goal.decreases-loop-i
-decreases-loop-i l = length l.text - l.i

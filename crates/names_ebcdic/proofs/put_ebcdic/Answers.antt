@@ -1,5 +1,5 @@
--- `names_ebcdic::put_ebcdic` meets its contract. The loop's invariant: to put the bytes from `i` on after those that
--- are there already gives the buffer with all of them. The measure is how many are left. Assumes nothing.
+-- `names_ebcdic::put_ebcdic` meets its contract. The loop's invariant: to put the bytes from `i` on after those
+-- that are there already gives the buffer with all of them. Assumes nothing.
 use mathlib.Core.Path.{◌≡◌, refl, sym, ap, ◌∙◌}
 use mathlib.Core.Bool.{true}
 use mathlib.Core.List.{List, []}
@@ -23,13 +23,13 @@ pub returns-then-no_room : goal.returns-then-no_room
 returns-then-no_room c =
     let s = c.args in
     let x = field s.text.now s.width in
-    let past : length s.out.now < s.at + c.filled_length-count.result = ltb-true _ _ (sym c.no_room.ensures ∙ c.if-no_room.true) in
+    let past : length s.out.now < s.at + c.max-count.result = ltb-true _ _ (sym c.no_room.ensures ∙ c.if-no_room.true) in
     sym (put_refused x s.out.now s.at (omega (arith, length-field s.text.now s.width)))
 
 pub loop-i-init : goal.loop-i-init
 loop-i-init c =
     let s = c.args in
-    let room : s.at + c.filled_length-count.result ≤ length s.out.now = ltb-false _ _ (sym c.no_room.ensures ∙ c.if-no_room.false) in
+    let room : s.at + c.max-count.result ≤ length s.out.now = ltb-false _ _ (sym c.no_room.ensures ∙ c.if-no_room.false) in
     (omega arith, omega (arith, length-field s.text.now s.width), room, refl, rw add-zero)
 
 pub loop-i-preserved : goal.loop-i-preserved

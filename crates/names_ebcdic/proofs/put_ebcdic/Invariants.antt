@@ -15,6 +15,3 @@ abbrev pub invariant-loop-i : goal.invariant-loop-i
 invariant-loop-i l =
     (l.i ≤ l.count) × (l.count ≡ length (field l.text l.width)) × (l.at + l.count ≤ length l.initial.out) × (length l.out ≡ length l.initial.out)
     × (overwrite l.out (l.at + l.i) (drop l.i (field l.text l.width)) ≡ overwrite l.initial.out l.at (field l.text l.width))
-
-abbrev pub decreases-loop-i : goal.decreases-loop-i
-decreases-loop-i l = l.count - l.i

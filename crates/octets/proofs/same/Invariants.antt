@@ -1,13 +1,7 @@
-use mathlib.Core.Path.{◌≡◌}
-use mathlib.Core.Bool.{◌&&◌}
-use Prim.Native.Nat.{◌-◌, ◌≤◌}
-use lib.Dec.{eqb}
-use lib.ListN.{length, drop}
+use Rattle.std.proofs.Common.{◌≡◌, ◌&&◌, length, nat_eq}
 use Rattle.octets.specs.Same.{same}
 use Rattle.octets.proofs.same.Given as goal
 
-abbrev pub invariant-loop-i : goal.invariant-loop-i
-invariant-loop-i l = (l.i ≤ length l.a) × (length l.a ≡ length l.b) × (eqb l.differences 0 && same (drop l.i l.a) (drop l.i l.b) ≡ same l.a l.b)
-
-abbrev pub decreases-loop-i : goal.decreases-loop-i
-decreases-loop-i l = length l.a - l.i
+-- that no difference was found yet and that the rest is the same, together, are the answer
+abbrev pub invariant-loop-x : goal.invariant-loop-x
+invariant-loop-x l = (length l.x-iterator.a.rest.now ≡ length l.x-iterator.b.rest.now) × (nat_eq l.differences 0 && same l.x-iterator.a.rest.now l.x-iterator.b.rest.now ≡ same l.a l.b)

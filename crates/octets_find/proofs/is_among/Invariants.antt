@@ -1,13 +1,8 @@
 use mathlib.Core.Path.{◌≡◌}
-use Prim.Native.Nat.{◌-◌, ◌≤◌}
 use lib.Dec.{ltb}
 use lib.ListN.{length, drop}
 use Rattle.octets.specs.Find.{up_to}
-use Rattle.octets_find.proofs.Before.{found}
 use Rattle.octets_find.proofs.is_among.Given as goal
 
 abbrev pub invariant-loop-j : goal.invariant-loop-j
-invariant-loop-j l = (l.j ≤ 8) × (l.found ≡ ltb (length (up_to l.b (drop l.at l.text))) l.j)
-
-abbrev pub decreases-loop-j : goal.decreases-loop-j
-decreases-loop-j l = 8 - l.j
+invariant-loop-j l = l.found ≡ ltb (length (up_to l.b (drop l.at l.text))) l.j

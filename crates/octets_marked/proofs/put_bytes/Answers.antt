@@ -1,5 +1,5 @@
 -- `octets_marked::put_bytes` meets its contract. The loop's invariant: what is still to be put, after what was put, is
--- what was to be put. The measure is how many bytes are left. Assumes nothing.
+-- what was to be put. Assumes nothing.
 use mathlib.Core.Path.{◌≡◌, ◌∙◌}
 use mathlib.Core.List.{[], ◌∷◌}
 use native.Mathlib.Omega.{arith}
@@ -14,7 +14,7 @@ put_byte-k-requires c =
     let l = c.loop-i in
     let a = c.args in
     let n = length-marked-at a.mark a.low a.high a.bytes.now l.i (omega arith) in
-    omega (arith, n, c.requires.2, l.invariant.1, l.invariant.2.place)
+    omega (arith, n, c.requires.2, l.invariant.0, l.invariant.1.place)
 
 pub loop-i-preserved : goal.loop-i-preserved
 loop-i-preserved c =
@@ -24,12 +24,12 @@ loop-i-preserved c =
     let s = a.bytes.now in
     let one = marked a.mark a.low a.high (get_or s l.i 0 ∷ []) in
     let piece = marked-at a.mark a.low a.high s l.i (omega arith) in
-    let put = piece-put a.mark a.low a.high s l.i 1 one piece l.out l.k (omega (arith, c.requires.2, l.invariant.1, l.invariant.2.place)) p.ensures in
-    (omega arith, p.auto.out ∙ l.invariant.1, then-further l.invariant.2 put)
+    let put = piece-put a.mark a.low a.high s l.i 1 one piece l.out l.k (omega (arith, c.requires.2, l.invariant.0, l.invariant.1.place)) p.ensures in
+    (p.auto.out ∙ l.invariant.0, then-further l.invariant.1 put)
 
 pub returns : goal.returns
 returns c =
     let l = c.loop-i in
     let a = c.args in
     let e : l.i ≡ a.end = omega arith in
-    rw e at l.invariant.2
+    rw e at l.invariant.1

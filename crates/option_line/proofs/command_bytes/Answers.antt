@@ -5,5 +5,5 @@ use Rattle.option_line.proofs.command_bytes.Goals as goal
 
 pub returns : goal.returns
 returns c =
-    let a = c.args in
-    command-filled a.verb a.option _ refl c.write.ensures
+    let q = c.args.command in
+    command-filled q.verb q.option _ refl c.write.ensures

@@ -4,25 +4,26 @@ use native.Mathlib.Omega.{arith}
 use Rattle.option_line.proofs.Sending.{nothing-sent, command-sent, put-within}
 use Rattle.option_line.proofs.send.Goals as goal
 
-pub returns-in-Nothing : goal.returns-in-Nothing
-returns-in-Nothing c =
+pub returns-in_default : goal.returns-in_default
+returns-in_default c =
     let a = c.args in
-    nothing-sent a.sides a.answered a.line.now a.at c.in-Nothing.is
+    rw c.after.ensures (nothing-sent a.sides a.answered a.line.now a.at c.in_default.is)
 
-pub overflow_add-result : goal.overflow_add-result
-overflow_add-result c =
+pub overflow_add-at : goal.overflow_add-at
+overflow_add-at c =
     let a = c.args in
+    let q = c.in-Some.command in
     let put = rw (c.if-put.true, c.command_bytes.ensures) at c.put.ensures in
-    omega (arith, c.ranges, put-within c.in-Command.verb c.in-Command.option a.line.now a.at put)
+    omega (arith, c.ranges, put-within q.verb q.option a.line.now a.at put)
 
 pub returns-then-put : goal.returns-then-put
 returns-then-put c =
     let a = c.args in
     let put = rw (c.if-put.true, c.command_bytes.ensures) at c.put.ensures in
-    command-sent a.sides a.answered a.line.now a.at _ _ c.in-Command.is true put
+    rw c.after-then-put.ensures (command-sent a.sides a.answered a.line.now a.at c.in-Some.command c.in-Some.is true put)
 
-pub returns-in-Command : goal.returns-in-Command
-returns-in-Command c =
+pub returns : goal.returns
+returns c =
     let a = c.args in
     let put = rw (c.if-put.false, c.command_bytes.ensures) at c.put.ensures in
-    command-sent a.sides a.answered a.line.now a.at _ _ c.in-Command.is false put
+    rw c.after-2.ensures (command-sent a.sides a.answered a.line.now a.at c.in-Some.command c.in-Some.is false put)

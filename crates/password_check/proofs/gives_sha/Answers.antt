@@ -1,19 +1,16 @@
 -- `password_check::gives_sha` meets its contract. Assumes nothing.
 use mathlib.Core.Path.{◌≡◌, ap, ◌∙◌}
-use native.Mathlib.Omega.{arith}
-use lib.ListN.{replicate}
-use Rattle.octets.proofs.Promise.{put-filling}
 use Rattle.password_check.specs.Gives.{sha_length, gives_sha}
-use Rattle.password_check.proofs.Offers.{hash_gives, hash-refused, hash-compared, other_length, other-seeds, sha-given}
+use Rattle.password_check.proofs.Offers.{hash_gives, refused, compared, other_length, other-seeds, sha-given}
 use mathlib.Core.Bool.{not}
-use Rattle.password_check.proofs.gives_sha.Goals.{After-sha_substitute-answer}
+use Rattle.password_check.proofs.gives_sha.Goals.{After-sha_substitute}
 use Rattle.password_check.proofs.gives_sha.Goals as goal
 
-pub returns-then-token-ne-SHA_LENGTH : goal.returns-then-token-ne-SHA_LENGTH
+pub returns-in_default : goal.returns-in_default
 unfolding gives_sha
-returns-then-token-ne-SHA_LENGTH c =
+returns-in_default c =
     let s = c.args in
-    other_length sha_length s.token.now s.server_seed.now s.client_seed.now _ (omega arith)
+    other_length sha_length s.token.now s.server_seed.now s.client_seed.now _ c.in_default.ensures.1
 
 pub returns-then-not-are_seeds : goal.returns-then-not-are_seeds
 unfolding gives_sha
@@ -23,25 +20,26 @@ returns-then-not-are_seeds c =
     c.are_seeds.result c.are_seeds.ensures (ap not c.if-not-are_seeds.true)
 
 -- what the answered hash gives is what is asked for
-answered : (c : After-sha_substitute-answer)
+answered : (c : After-sha_substitute)
     → let a = c.args in
-    hash_gives c.sha_substitute-answer.result a.offered.now
+    hash_gives c.sha_substitute.result a.offered.now
     ≡ gives_sha a.token.now a.name.now a.server_seed.now a.client_seed.now a.offered.now
 answered c =
     let a = c.args in
-    let filled : c.put.new.buffer ≡ a.token.now =
-    ap (λ o. o.lent) (c.put.ensures ∙ put-filling a.token.now (replicate 20 0) (omega arith)) in
-    ap (λ x. hash_gives x a.offered.now) c.sha_substitute-answer.ensures
-    ∙ rw (filled, c.word_64-server.ensures, c.word_64-client.ensures)
+    let whole = c.in-Ok.ensures.1 in
+    ap (λ x. hash_gives x a.offered.now) c.sha_substitute.ensures
+    ∙ rw (whole.same, c.word_64-server.ensures, c.word_64-client.ensures)
     (sha-given a.token.now a.name.now a.server_seed.now a.client_seed.now a.offered.now
-    c.are_seeds.result c.are_seeds.ensures (ap not c.if-not-are_seeds.false) (omega arith)
-    (λ i. (c.shared_slice_known-3-1.given i).fits)
-    (λ i. (c.shared_slice_known-4-1.given i).fits))
+    c.are_seeds.result c.are_seeds.ensures (ap not c.if-not-are_seeds.false) whole.long
+    (λ i. (c.type_inv.server_seed i).fits)
+    (λ i. (c.type_inv.client_seed i).fits))
 
-pub returns-then-answer-ne0 : goal.returns-then-answer-ne0
-returns-then-answer-ne0 c =
-    hash-refused c.sha_substitute-answer.result _ (omega arith) ∙ answered (goal.at.returns-then-answer-ne0 c).After-sha_substitute-answer
+pub returns-in_default-sha_substitute : goal.returns-in_default-sha_substitute
+returns-in_default-sha_substitute c =
+    refused (λ bytes. bytes) c.sha_substitute.result c.args.offered.now _ c.in_default-sha_substitute.is
+    ∙ answered (goal.at.returns-in_default-sha_substitute c).After-sha_substitute
 
 pub returns : goal.returns
 returns c =
-    c.same.ensures ∙ hash-compared c.sha_substitute-answer.result _ (omega arith) ∙ answered (goal.at.returns c).After-sha_substitute-answer
+    c.same.ensures ∙ compared (λ bytes. bytes) c.sha_substitute.result c.args.offered.now _ c.in-Ok-sha_substitute.is
+    ∙ answered (goal.at.returns c).After-sha_substitute

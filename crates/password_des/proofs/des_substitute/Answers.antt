@@ -1,8 +1,7 @@
 -- `password_des::des_substitute` meets its contract. Assumes nothing.
-use Rattle.std.proofs.Common.{sym, ap, ◌∙◌}
+use Rattle.std.proofs.Common.{sym, ap, ◌∙◌, Ok}
 use Rattle.names.specs.Name.{profile_limit}
 use Rattle.names.proofs.Text.{name-length}
-use Rattle.password_des.specs.declared.Block.TheVariants.{Value}
 use Rattle.password_des.specs.Answer.{des_substitute}
 use mathlib.Core.Bool.{not}
 use Rattle.password_des.proofs.des_substitute.Goals as goal
@@ -18,4 +17,4 @@ pw_sub-requires c =
 
 pub returns : goal.returns
 unfolding des_substitute
-returns c = rw (← c.is_name.ensures, (ap not c.if-not-is_name.false)) (ap Value c.pw_sub.ensures)
+returns c = rw (← c.is_name.ensures, (ap not c.if-not-is_name.false)) (ap Ok c.pw_sub.ensures)

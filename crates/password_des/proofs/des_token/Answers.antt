@@ -1,7 +1,6 @@
 -- `password_des::des_token` meets its contract. Assumes nothing.
-use Rattle.std.proofs.Common.{sym, ap, ◌∙◌}
+use Rattle.std.proofs.Common.{sym, ap, ◌∙◌, Ok}
 use Rattle.names.specs.Name.{profile_limit}
-use Rattle.password_des.specs.declared.Block.TheVariants.{Value}
 use Rattle.password_des.specs.Answer.{des_password_limit, des_token}
 use Rattle.names.proofs.Text.{name-length}
 use mathlib.Core.Bool.{not}
@@ -25,4 +24,4 @@ pw_token-requires c =
 pub returns : goal.returns
 unfolding des_token
 returns c =
-    rw (← c.is_name.ensures, (ap not c.if-not-is_name.false), ← c.is_name-2.ensures, (ap not c.if-not-is_name-2.false)) (ap Value c.pw_token.ensures)
+    rw (← c.is_name.ensures, (ap not c.if-not-is_name.false), ← c.is_name-2.ensures, (ap not c.if-not-is_name-2.false)) (ap Ok c.pw_token.ensures)

@@ -1,5 +1,5 @@
--- `password_sha::put_unicode` meets its contract: the characters from i on, put after those that are there, give all of
--- them. The measure is `length text - i`. Assumes nothing.
+-- `password_sha::put_unicode` meets its contract: the characters from i on, put after those that are there, give
+-- all of them. Assumes nothing.
 use mathlib.Core.Path.{◌≡◌, refl, sym, ◌∙◌}
 use mathlib.Core.List.{[]}
 use Prim.Native.Nat.{◌+◌, ◌*◌, ◌≤◌, ◌<◌}

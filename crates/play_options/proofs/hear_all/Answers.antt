@@ -1,17 +1,15 @@
 -- `play_options::hear_all` meets its contract, as `ask_all` does. Assumes nothing.
 use mathlib.Core.Path.{◌∙◌, sym}
-use native.Mathlib.Omega.{arith}
 use Rattle.play_options.specs.Internal.Turns.{hears}
 use Rattle.play_options.proofs.Turning.{turned, no-turns}
-use borrow.Author.Rules.{rules}
 use Rattle.play_options.proofs.hear_all.Goals as goal
 
 pub loop-i-preserved : goal.loop-i-preserved
 loop-i-preserved c =
     let l = c.loop-i in
-    (omega arith, search rules, turned (hears _) 6 l.i (omega arith) l.last l.line c.hear-last.ensures ∙ l.invariant.2)
+    turned (hears _) 6 l.i c.loop-i-test.true l.last l.line c.hear-last.ensures ∙ l.invariant
 
 pub returns : goal.returns
 returns c =
     let l = c.loop-i in
-    sym (no-turns (hears _) 6 l.i (omega arith) l.last l.line) ∙ l.invariant.2
+    sym (no-turns (hears _) 6 l.i c.loop-i-test.false l.last l.line) ∙ l.invariant

@@ -1,6 +1,6 @@
 -- The turns of both ends: what the private functions of this crate answer. No public promise rests on these
 -- definitions; `proofs/` has them computed.
-use Rattle.std.specs.Prelude.{ℕ, suc, zero, ◌*◌, Bool, true, false, ◌&&◌, List, eqb, if◌then◌else◌}
+use Rattle.std.specs.Prelude.{ℕ, suc, zero, ◌*◌, Bool, true, false, ◌&&◌, List, eqb, if◌then◌else◌, None}
 use Rattle.octets.specs.Lent.{Outcome, outcome}
 use Rattle.option_rules.specs.declared.Command.TheVariants.{On as on}
 use Rattle.option_rules.specs.declared.Side.{Side}
@@ -36,7 +36,7 @@ abbrev pub hears : (heard : List ℕ) → ℕ → Sent → (line : List ℕ) →
 hears heard i s line = heard_on s.sides heard (3 * i) true line s.place
 
 abbrev pub asked_all : List ℕ → Outcome Sent
-asked_all line = turns asks 6 0 (sent all_off 0 0) line
+asked_all line = turns asks 6 0 (sent all_off None 0) line
 
 abbrev pub heard_all : Sent → (heard line : List ℕ) → Outcome Sent
 heard_all first heard line = turns (hears heard) 6 0 first line

@@ -1,17 +1,17 @@
 -- `play_order::complete` meets its contract. Assumes nothing.
-use mathlib.Core.Path.{ap, ◌∙◌}
+use mathlib.Core.Path.{ap, sym, ◌∙◌}
 use Rattle.show_event.specs.Sent.{sent_all}
 use Rattle.play_order.proofs.Ordering.{held-completed, none-completed}
 use Rattle.play_order.proofs.complete.Goals as goal
 
-pub returns-in-Written : goal.returns-in-Written
-returns-in-Written c =
+pub returns-then-is_err : goal.returns-then-is_err
+unfolding sent_all
+returns-then-is_err c =
+    let a = c.args in
+    ap (λ es. sent_all es a.up.now a.at) (none-completed a.ledger c.complete.ensures (sym c.if-is_err.ensures.value))
+
+pub returns : goal.returns
+returns c =
     let a = c.args in
     c.send_record-end.ensures
-    ∙ ap (λ es. sent_all es a.up.now a.at) (held-completed a.ledger c.complete-after.ensures c.in-Written.is)
-
-pub returns-in-Refused : goal.returns-in-Refused
-unfolding sent_all
-returns-in-Refused c =
-    let a = c.args in
-    ap (λ es. sent_all es a.up.now a.at) (none-completed a.ledger c.complete-after.ensures c.in-Refused.is)
+    ∙ ap (λ es. sent_all es a.up.now a.at) (held-completed a.ledger c.complete.ensures (sym c.if-is_err.ensures.value))

@@ -1,49 +1,45 @@
 -- `print_frame::read_header` meets its contract: at each `return` the tests of `header_of` up to it are decided. Assumes
 -- nothing.
-use mathlib.Core.Path.{sym, ◌∙◌}
-use native.Mathlib.Omega.{arith}
-use borrow.Author.Tests.{lt-ltb, le-ltb}
-use Rattle.print_frame.specs.Frame.{structure_length, header_length, data_place, header_of}
+use Rattle.std.proofs.Common.{◌≡◌, refl, sym, ◌∙◌, ℕ, ◌-◌, ◌≤◌, Bool, true, false, List, Result, Ok, Err, arith, if◌then◌else◌}
+use Rattle.std.proofs.lemmas.Result.{err_from_is_err_and}
+use borrow.Author.Tests.{le-ltb}
+use Rattle.refusal.specs.declared.Refusal.{Refusal}
+use Rattle.refusal.specs.declared.Refusal.TheVariants.{BadOperation}
+use Rattle.print_frame.specs.declared.Operation.{Operation}
+use Rattle.print_frame.specs.Frame.{byte, structure_length, header_length, data_place, is_reserved, is_operation, operation_of, said, header_of}
+use Rattle.print_frame.proofs.Masks.{one_bit}
 use Rattle.print_frame.proofs.read_header.Goals as goal
 
-pub overflow_cast-header : goal.overflow_cast-header
-overflow_cast-header c = omega (arith, c.shared_slice_known-2-1.given 6)
-
-pub returns-then-header-lt4 : goal.returns-then-header-lt4
+-- a header whose lengths and flags are right, by its operation code
+by-code : (f : List ℕ) (t : Bool)
+    → 4 ≤ header_length f → data_place f ≤ structure_length f → is_reserved (byte f 7) (byte f 8) ≡ false → is_operation (byte f 9) ≡ t
+    → header_of f ≡ (if t then Ok (said f) else Err BadOperation)
 unfolding header_of
-returns-then-header-lt4 c =
-    let f = c.args.frame.now in
-    rw (lt-ltb (header_length f) 4 (omega arith))
+by-code f true low within flags code = rw (le-ltb (header_length f) 4 low, le-ltb (structure_length f) (data_place f) within, flags, code)
+by-code f false low within flags code = rw (le-ltb (header_length f) 4 low, le-ltb (structure_length f) (data_place f) within, flags, code)
 
-pub overflow_add-header : goal.overflow_add-header
-overflow_add-header c = omega (arith, c.shared_slice_known-2-1.given 6)
+-- what is answered of a code says whether it is one
+module _ (o : Operation) where
+  is_code : (t : Bool) (p : Operation) → ◌≡◌ {A = Result Operation Refusal} (Ok o) (if t then Ok p else Err BadOperation) → (t ≡ true) × (o ≡ p)
+  is_code true p e = (refl, cc)
+  is_code false p e = (cc, cc)
 
-pub returns-then-frame-header : goal.returns-then-frame-header
-unfolding header_of
-returns-then-frame-header c =
-    let f = c.args.frame.now in
-    rw (le-ltb (header_length f) 4 (omega arith), lt-ltb (structure_length f) (data_place f) (omega arith))
+no_code : (t : Bool) (p : Operation) (k : Refusal) → ◌≡◌ {A = Result Operation Refusal} (Err k) (if t then Ok p else Err BadOperation)
+    → (t ≡ false) × (k ≡ BadOperation)
+no_code true p k e = (cc, cc)
+no_code false p k e = (refl, cc)
 
-pub returns-then-is_reserved : goal.returns-then-is_reserved
-unfolding header_of
-returns-then-is_reserved c =
+pub returns-in_err-operation : goal.returns-in_err-operation
+returns-in_err-operation c =
     let f = c.args.frame.now in
-    let reserved = sym c.is_reserved.ensures ∙ c.if-is_reserved.true in
-    rw (le-ltb (header_length f) 4 (omega arith), le-ltb (structure_length f) (data_place f) (omega arith), reserved)
-
-pub returns-then-not-is_operation : goal.returns-then-not-is_operation
-unfolding header_of
-returns-then-not-is_operation c =
-    let f = c.args.frame.now in
-    let reserved = sym c.is_reserved.ensures ∙ c.if-is_reserved.false in
-    let operation = sym c.is_operation.ensures ∙ c.if-not-is_operation.true in
-    rw (le-ltb (header_length f) 4 (omega arith), le-ltb (structure_length f) (data_place f) (omega arith), reserved, operation)
+    let k = no_code (is_operation (byte f 9)) (operation_of (byte f 9)) _ (c.in_err-operation.ensures) in
+    let p = err_from_is_err_and c.from_residual.result c.from_residual.ensures.1 in
+    rw (p.1, p.2, k.1) (sym (by-code f false (omega arith) (omega arith) (sym c.is_reserved.ensures ∙ c.if-is_reserved.false) k.0))
 
 pub returns : goal.returns
-unfolding header_of
 returns c =
     let f = c.args.frame.now in
-    let reserved = sym c.is_reserved.ensures ∙ c.if-is_reserved.false in
-    let operation = sym c.is_operation.ensures ∙ c.if-not-is_operation.false in
-    let within = le-ltb (structure_length f) (data_place f) (omega arith) in
-    rw (le-ltb (header_length f) 4 (omega arith), within, reserved, operation, c.fields.ensures)
+    let k = is_code c.in_ok-operation.operation (is_operation (byte f 9)) (operation_of (byte f 9)) (c.in_ok-operation.ensures) in
+    let flags = sym c.is_reserved.ensures ∙ c.if-is_reserved.false in
+    let long : c.from-header.result - 4 ≡ data_place f - 10 = omega arith in
+    rw (by-code f true (omega arith) (omega arith) flags k.0, k.1, c.flags_of.ensures, c.requires.direction, one_bit (byte f 4) 4, long, c.from-header.ensures)

@@ -30,9 +30,9 @@ overflow_sub-fixed c = omega (arith, size (goal.at.overflow_sub-fixed c).After-b
 pub overflow_add-fixed-2 : goal.overflow_add-fixed-2
 overflow_add-fixed-2 c = omega arith
 
-pub returns-then-pair-fixed : goal.returns-then-pair-fixed
-returns-then-pair-fixed c =
-    sym (other_length (shape_of c.args.version) _ _ (size (goal.at.returns-then-pair-fixed c).After-byte_at-n) (flags (goal.at.returns-then-pair-fixed c).After-byte_at-n) c.args.bytes.now (omega arith) (λ e. omega arith))
+pub returns-then-from-fixed : goal.returns-then-from-fixed
+returns-then-from-fixed c =
+    sym (other_length (shape_of c.args.version) _ _ (size (goal.at.returns-then-from-fixed c).After-byte_at-n) (flags (goal.at.returns-then-from-fixed c).After-byte_at-n) c.args.bytes.now (omega arith) (λ e. omega arith))
 
 pub returns-then-highest-bytes : goal.returns-then-highest-bytes
 returns-then-highest-bytes c =

@@ -1,8 +1,6 @@
-use Rattle.std.proofs.Common.{◌-◌, ◌≤◌}
+-- `run_ends::every_night` is safe: no more runs are restless than were made. Assumes nothing.
+use Rattle.std.proofs.Common.{◌≤◌}
 use Rattle.run_ends.proofs.every_night.Given as goal
 
 abbrev pub invariant-loop-run : goal.invariant-loop-run
-invariant-loop-run l = (l.run ≤ 118098) × (l.restless ≤ l.run)
-
-abbrev pub decreases-loop-run : goal.decreases-loop-run
-decreases-loop-run l = 118098 - l.run
+invariant-loop-run l = l.restless ≤ l.run

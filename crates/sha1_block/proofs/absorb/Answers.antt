@@ -1,23 +1,36 @@
--- `sha1_block::absorb` meets its contract: what is left of the blocks, from here, gives the whole. The measure is
--- `length blocks - at`. Assumes nothing.
-use Rattle.std.proofs.Common.{◌≡◌, ◌+◌, ◌-◌, drop, sym, refl, ◌∙◌, arith, length-drop, rules}
+-- `sha1_block::absorb` meets its contract: the blocks that are left, from the value after the others, give the whole.
+-- Assumes nothing.
+use Rattle.std.proofs.Common.{◌≡◌, ℕ, zero, suc, ◌+◌, ◌<◌, ◌/◌, List, [], ◌∷◌, length, get_or, take, drop, refl, sym, ap, ◌∙◌, add-one, drop-cons}
+use lib.ListN.{drop_of_length-le}
+use Rattle.std.specs.Simd.{first_chunks}
+use Rattle.words.specs.Blocks.{pieces, cut}
+use Rattle.sha1_hash.specs.Sha1.{Five, compressed, hashed}
 use Rattle.sha1_block.specs.Held.{five}
-use Rattle.sha1_hash.proofs.Chain.{hashed-more, hashed-none}
 use Rattle.sha1_block.proofs.absorb.Goals as goal
 
-pub loop-at-init : goal.loop-at-init
-loop-at-init c = (search rules, refl)
+chunks-pieces : (n k : ℕ) (l : List ℕ) → first_chunks n k l ≡ pieces k n l
+unfolding pieces
+chunks-pieces n zero l = refl
+chunks-pieces n (suc k) l = ap (λ ps. take n l ∷ ps) (chunks-pieces n k (drop n l))
 
-pub loop-at-preserved : goal.loop-at-preserved
-loop-at-preserved c =
-    let l = c.loop-at in
+one_more : (H : Five) (l : List (List ℕ)) (i : ℕ) → i < length l → hashed H (drop i l) ≡ hashed (compressed H (get_or l i [])) (drop (i + 1) l)
+unfolding hashed
+one_more H l i h = rw (add-one, drop-cons l i [] h)
+
+pub loop-block-init : goal.loop-block-init
+unfolding cut
+loop-block-init c =
     let s = c.args.blocks.now in
-    let e : l.at + 64 - l.at ≡ 64 = omega arith in
-    let block = rw e at c.compress-h.ensures in
-    (omega arith, rw block (sym (hashed-more (five l.h) s l.at (omega arith))) ∙ l.invariant.1)
+    let front : c.as_chunks.result.0.now ≡ first_chunks 64 (length s / 64) s = c.as_chunks.ensures.front in
+    ap (hashed (five c.args.h)) (front ∙ chunks-pieces 64 (length s / 64) s)
+
+pub loop-block-preserved : goal.loop-block-preserved
+loop-block-preserved c =
+    let l = c.loop-block in
+    rw c.compress-h.ensures (sym (one_more (five l.h) c.as_chunks.result.0.now l.block-index c.loop-block-test.true) ∙ l.invariant)
 
 pub returns : goal.returns
+unfolding hashed
 returns c =
-    let l = c.loop-at in
-    let s = c.args.blocks.now in
-    sym (hashed-none (five l.h) (drop l.at s) (rw length-drop (omega arith))) ∙ l.invariant.1
+    let l = c.loop-block in
+    rw (drop_of_length-le c.as_chunks.result.0.now {i = l.block-index} c.loop-block-test.false) at l.invariant

@@ -3,7 +3,6 @@ use mathlib.Core.Path.{◌≡◌, ap, ◌∙◌}
 use native.Mathlib.Omega.{arith}
 use lib.ListN.{length, drop}
 use Rattle.octets.specs.Find.{up_to}
-use Rattle.octets.specs.Part.{part}
 use Rattle.show_case.specs.Case.{title_in, digits_in}
 use Rattle.show_case.proofs.Lines.{part-from}
 use Rattle.show_case.proofs.digits.Goals as goal

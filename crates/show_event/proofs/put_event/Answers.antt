@@ -1,6 +1,6 @@
 -- `show_event::put_event` meets its contract: what the writer leaves is there from the place on. Assumes nothing.
+use Rattle.std.specs.Prelude.{Ok, Err}
 use native.Mathlib.Omega.{arith}
-use Rattle.refusal.specs.declared.Written.TheVariants.{Wrote, Refused}
 use Rattle.telnet.specs.Event.{event}
 use Rattle.show_event.proofs.Placing.{after-the-end, put_back, wrote-within}
 use Rattle.show_event.proofs.put_event.Goals as goal
@@ -16,17 +16,17 @@ overflow_add-result c =
     omega (
       arith,
       c.if-n-at.false,
-      wrote-within (event a.kind a.payload.now) a.line.now c.write.new.out a.at _ (Wrote c.in-Wrote.k) c.write.ensures c.in-Wrote.is,
+      wrote-within (event a.kind a.payload.now) a.line.now c.write.new.out a.at _ (Ok c.in-Ok.k) c.write.ensures c.in-Ok.is,
     )
 
-pub returns-in-Wrote : goal.returns-in-Wrote
-returns-in-Wrote c =
+pub returns-in-Ok : goal.returns-in-Ok
+returns-in-Ok c =
     let a = c.args in
-    put_back (event a.kind a.payload.now) a.line.now c.write.new.out a.at _ (Wrote c.in-Wrote.k)
-    c.if-n-at.false c.write.ensures c.in-Wrote.is
+    put_back (event a.kind a.payload.now) a.line.now c.write.new.out a.at _ (Ok c.in-Ok.k)
+    c.if-n-at.false c.write.ensures c.in-Ok.is
 
-pub returns-in-Refused : goal.returns-in-Refused
-returns-in-Refused c =
+pub returns-in-Err : goal.returns-in-Err
+returns-in-Err c =
     let a = c.args in
-    put_back (event a.kind a.payload.now) a.line.now c.write.new.out a.at _ (Refused c.in-Refused.field-0)
-    c.if-n-at.false c.write.ensures c.in-Refused.is
+    put_back (event a.kind a.payload.now) a.line.now c.write.new.out a.at _ (Err c.in-Err.field-0)
+    c.if-n-at.false c.write.ensures c.in-Err.is

@@ -1,5 +1,5 @@
 -- `show_numbers::put_numbers` meets its contract. The loop's invariant: to put the numbers of the pairs from `i` on
--- after those that are there gives the list with all of them. The measure is how many pairs are left. Assumes nothing.
+-- after those that are there gives the list with all of them. Assumes nothing.
 use mathlib.Core.Path.{◌≡◌, refl, sym, ap, ◌∙◌}
 use Prim.Native.Nat.{suc, ◌+◌, ◌*◌, ◌≤◌}
 use native.Mathlib.Omega.{arith}
@@ -17,7 +17,7 @@ returns-then-numbers-n c =
     sym (front-short _ _ (numbers_of s.bytes.now) s.numbers.now (omega (arith, length-numbers s.bytes.now)))
 
 pub loop-i-init : goal.loop-i-init
-loop-i-init c = (omega arith, refl, omega arith, refl, refl)
+loop-i-init c = (refl, omega arith, refl, refl)
 
 pub loop-i-preserved : goal.loop-i-preserved
 loop-i-preserved c =
@@ -29,11 +29,10 @@ loop-i-preserved c =
     let rest = numbers_of (drop (p + 1 + 1) x) in
     let room : l.i + suc (length rest) ≤ length l.numbers = rw (length-numbers, length-drop) (omega arith) in
     let twice : 2 * (l.i + 1) ≡ p + 1 + 1 = omega arith in (
-      omega arith,
       refl,
       omega arith,
-      rw length-set l.invariant.3,
-      rw (twice, c.number_at.ensures, overwrite-cons l.numbers l.i (number_in (drop p x)) rest room, ← next) l.invariant.4,
+      rw length-set l.invariant.2,
+      rw (twice, c.number_at.ensures, overwrite-cons l.numbers l.i (number_in (drop p x)) rest room, ← next) l.invariant.3,
     )
 
 pub returns : goal.returns
@@ -44,5 +43,5 @@ returns c =
     let long = length-numbers x in
     let none = numbers-none x (2 * l.i) (omega arith) in
     let done : l.numbers ≡ overwrite s.numbers.now 0 (numbers_of x) =
-    sym (overwrite-nil l.numbers l.i) ∙ ap (overwrite l.numbers l.i) (sym none) ∙ l.invariant.4 in
+    sym (overwrite-nil l.numbers l.i) ∙ ap (overwrite l.numbers l.i) (sym none) ∙ l.invariant.3 in
     rw (← long, done) (sym (front_fits _ _ (numbers_of x) s.numbers.now (omega arith)))

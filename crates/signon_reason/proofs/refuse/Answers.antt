@@ -1,15 +1,13 @@
 -- `signon_reason::refuse` meets its contract: a fault of the table comes first. Assumes nothing.
+use Rattle.std.specs.Prelude.{Ok, Err}
+use Rattle.std.proofs.lemmas.Result.{err_from_is_err_and}
 use Rattle.signon_reason.proofs.Deciding.{refuses}
 use Rattle.signon_reason.proofs.refuse.Goals as goal
 
-pub returns-in-Refused : goal.returns-in-Refused
-returns-in-Refused c =
-    let a = c.args in
-    let t = c.check in
-    refuses a.table.now a.number t.result _ t.ensures c.in-Refused.is
+pub returns-in_err-check : goal.returns-in_err-check
+returns-in_err-check c =
+    let p = err_from_is_err_and c.from_residual.result c.from_residual.ensures.1 in
+    rw (p.1, p.2) (refuses c.args.table.now c.args.refusal (Err _) c.in_err-check.ensures)
 
-pub returns-in-Profiles : goal.returns-in-Profiles
-returns-in-Profiles c =
-    let a = c.args in
-    let t = c.check in
-    refuses a.table.now a.number t.result _ t.ensures c.in-Profiles.is
+pub returns : goal.returns
+returns c = refuses c.args.table.now c.args.refusal (Ok _) c.in_ok-check.ensures

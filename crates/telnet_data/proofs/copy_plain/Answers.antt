@@ -12,7 +12,7 @@ pub returns : goal.returns
 unfolding part
 returns c =
     let a = c.args in
-    let n = c.smaller-n.result in
+    let n = c.min-n.result in
     let x = part a.s.now a.at n in
     let some : length x ≤ n = rw length-take (omega arith) in
     let put = c.put.ensures in

@@ -1,10 +1,10 @@
 -- `telnet_line::line` meets its contract. Assumes nothing.
+use Rattle.std.specs.Prelude.{Ok}
 use mathlib.Core.Path.{◌≡◌, sym, ap, ap₂, ◌∙◌}
 use native.Mathlib.Omega.{arith}
 use lib.ListN.{length}
 use Rattle.octets.specs.Lent.{outcome}
 use Rattle.octets.proofs.Promise.{front-short, front_fits}
-use Rattle.refusal.specs.declared.Written.TheVariants.{Wrote}
 use Rattle.telnet_line.specs.Line.{answer_text, line as line_of}
 use Rattle.telnet_line.proofs.Few.{text-length, text-put, text-few}
 use borrow.Author.Rules.{rules}
@@ -28,4 +28,4 @@ returns c =
     let x = line_of a.place (answer_text a.answer) in
     let n = text-length x c.line_text-text.ensures in
     let put = text-put x c.line_text-text.ensures a.out.now 0 (omega (arith, n)) c.put.ensures in
-    ap₂ outcome (ap Wrote n) put ∙ sym (front_fits _ _ x a.out.now (omega (arith, n)))
+    ap₂ outcome (ap Ok n) put ∙ sym (front_fits _ _ x a.out.now (omega (arith, n)))

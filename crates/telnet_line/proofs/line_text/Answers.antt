@@ -7,4 +7,4 @@ pub returns : goal.returns
 unfolding text_of_line
 returns c =
     let p = c.compose-length.ensures in
-    rw (p.bytes, p.after, zero-add, c.zeros-bytes.ensures, c.answer_phrase-phrase.ensures.says)
+    rw (p.bytes, p.after, zero-add, c.answer_phrase-phrase.ensures.says)

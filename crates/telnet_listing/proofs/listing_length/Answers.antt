@@ -1,10 +1,10 @@
 -- `telnet_listing::listing_length` meets its contract. The loop's invariant: the lengths so far and those of the lines
 -- from here on make the whole. The measure is how many bytes are left. Assumes nothing.
+use Rattle.std.specs.Prelude.{Ok}
 use mathlib.Core.Path.{◌≡◌, refl, sym, ap, ◌∙◌}
 use Prim.Native.Nat.{◌+◌}
 use native.Mathlib.Omega.{arith}
 use lib.ListN.{length}
-use Rattle.refusal.specs.declared.Written.TheVariants.{Wrote}
 use Rattle.telnet_listing.specs.Listing.{listing}
 use Rattle.telnet_line.proofs.Few.{text-length}
 use Rattle.telnet_listing.proofs.Sized.{sized-fits, sized-refused}
@@ -24,27 +24,19 @@ returns-then-room-total c =
 pub loop-total-smaller : goal.loop-total-smaller
 loop-total-smaller c =
     let l = c.loop-total in
-    omega (arith, further c.args.s.now l.i l.invariant.0 c.look-answer.ensures c.in-Found.is)
+    omega (arith, further c.args.s.now l.i l.invariant.0 c.look-answer.ensures (sym c.in-Some.ensures))
 
 pub loop-total-preserved : goal.loop-total-preserved
 loop-total-preserved c =
     let l = c.loop-total in
     let s = c.args.s.now in
-    let t = turn-length s l.i l.invariant.0 c.look-answer.ensures c.in-Found.is in
-    ((further s l.i l.invariant.0 c.look-answer.ensures c.in-Found.is).1, omega arith, omega (arith, t, text-length _ c.line_text-text.ensures))
+    let t = turn-length s l.i l.invariant.0 c.look-answer.ensures (sym c.in-Some.ensures) in
+    ((further s l.i l.invariant.0 c.look-answer.ensures (sym c.in-Some.ensures)).1, omega arith, omega (arith, t, text-length _ c.line_text-text.ensures))
 
-pub returns-in-End : goal.returns-in-End
-returns-in-End c =
+pub returns-in_default : goal.returns-in_default
+returns-in_default c =
     let l = c.loop-total in
     let a = c.args in
-    let t = turn-length a.s.now l.i l.invariant.0 c.look-answer.ensures c.in-End.is in
+    let t = turn-length a.s.now l.i l.invariant.0 c.look-answer.ensures (sym c.in_default.ensures) in
     let all : l.total + c.line_text-text.result.length ≡ length (listing a.s.now) = omega (arith, t, text-length _ c.line_text-text.ensures) in
-    ap Wrote all ∙ sym (sized-fits (listing a.s.now) a.room (omega (arith, all)))
-
-pub returns-in-Refused : goal.returns-in-Refused
-returns-in-Refused c =
-    let l = c.loop-total in
-    let a = c.args in
-    let t = turn-length a.s.now l.i l.invariant.0 c.look-answer.ensures c.in-Refused.is in
-    let all : l.total + c.line_text-text.result.length ≡ length (listing a.s.now) = omega (arith, t, text-length _ c.line_text-text.ensures) in
-    ap Wrote all ∙ sym (sized-fits (listing a.s.now) a.room (omega (arith, all)))
+    ap Ok all ∙ sym (sized-fits (listing a.s.now) a.room (omega (arith, all)))

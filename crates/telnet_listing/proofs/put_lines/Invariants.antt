@@ -6,10 +6,10 @@ use Rattle.telnet_listing.specs.Listing.{listing}
 use Rattle.telnet_listing.proofs.Lines.{lines_at}
 use Rattle.telnet_listing.proofs.put_lines.Given as goal
 
-abbrev pub invariant-loop-next : goal.invariant-loop-next
-invariant-loop-next l =
+abbrev pub invariant-loop-found : goal.invariant-loop-found
+invariant-loop-found l =
     (l.i ≤ length l.s) × (length l.out ≡ length l.initial.out) × (l.at + length (lines_at l.s l.i) ≡ length (listing l.s))
     × (overwrite l.out l.at (lines_at l.s l.i) ≡ overwrite l.initial.out 0 (listing l.s))
 
-abbrev pub decreases-loop-next : goal.decreases-loop-next
-decreases-loop-next l = length l.s - l.i
+abbrev pub decreases-loop-found : goal.decreases-loop-found
+decreases-loop-found l = length l.s - l.i

@@ -1,13 +1,13 @@
 -- `telnet_pass::go_through` meets its contract. The invariant: what was given so far and what is given from here on is the
 -- whole call. The measure is what is left of the fragment. Assumes nothing.
-use mathlib.Core.Path.{◌≡◌, refl, ◌∙◌}
+use mathlib.Core.Path.{◌≡◌, ◌∙◌}
 use Prim.Native.Nat.{◌+◌, ◌≤◌, ◌<◌}
 use native.Mathlib.Omega.{arith}
 use lib.ListN.{length, get_or, take, set, length-set}
 use Rattle.telnet_fragments.specs.Promise.{happened}
 use Rattle.telnet_stage.specs.declared.Act.TheVariants.{Keeps}
 use Rattle.telnet_stage.proofs.Turning.{turn_is}
-use Rattle.telnet_pass.proofs.Running.{ahead_none, waits-on, gives-on, stops-on, ends_on, one_more, was-ran}
+use Rattle.telnet_pass.proofs.Running.{waits-on, gives-on, stops-on, ends_on, one_more, was-ran}
 use Rattle.telnet_pass.proofs.Stretching.{Copied, was-copied, copied-within, copied-room, copied-length, copied-after, past-set, data-run, kept_run}
 use Rattle.telnet_pass.proofs.go_through.Goals.{After-copy_run-run, After-copy_run-run-in-Keeps, In-Keeps}
 use Rattle.telnet_pass.proofs.go_through.Goals as goal
@@ -33,9 +33,6 @@ kept-copied : (c : After-copy_run-run-in-Keeps)
     Copied s (l.i + 1) (set l.kept l.n (get_or s l.i 0)) (l.n + 1) c.copy_run-run-in-Keeps.result c.copy_run-run-in-Keeps.new.out
 kept-copied c =
     was-copied _ _ _ _ c.copy_run-run-in-Keeps.ensures
-
-pub loop-i-init : goal.loop-i-init
-loop-i-init c = (omega arith, omega arith, c.requires.1, refl, refl, ahead_none _)
 
 pub loop-i-preserved-in-Waits : goal.loop-i-preserved-in-Waits
 loop-i-preserved-in-Waits c =

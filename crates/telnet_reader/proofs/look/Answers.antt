@@ -1,7 +1,7 @@
 -- `telnet_reader::look` meets its contract. Assumes nothing.
 use mathlib.Core.Path.{sym, ap₂, ◌∙◌}
 use native.Mathlib.Omega.{arith}
-use Rattle.telnet_reader.specs.declared.Answer.TheVariants.{Found}
+use Rattle.telnet_reader.specs.Promise.{event_found}
 use Rattle.telnet.specs.declared.Kind.TheVariants.{Data}
 use Rattle.telnet_data.proofs.Stretches.{Measured, measured}
 use Rattle.telnet_reader.proofs.Places.{look-past, look-run, look-end, look-command}
@@ -23,7 +23,7 @@ pub returns-then-count-gt0 : goal.returns-then-count-gt0
 returns-then-count-gt0 c =
     let a = c.args in
     let m = run (goal.at.returns-then-count-gt0 c).After-measure-run in
-    ap₂ (Found Data) m.counted m.ended ∙ sym (look-run a.s.now a.at (omega arith) (omega arith))
+    ap₂ (event_found Data) m.counted m.ended ∙ sym (look-run a.s.now a.at (omega arith) (omega arith))
 
 pub returns-then-at-s : goal.returns-then-at-s
 returns-then-at-s c =

@@ -10,8 +10,7 @@ use Rattle.telnet.specs.declared.Kind.TheVariants.{Data}
 use Rattle.telnet_data.specs.Promise.{count}
 use Rattle.telnet_data.proofs.Stretches.{count-within}
 use Rattle.telnet_data.proofs.Copies.{run_none, run-whole}
-use Rattle.telnet_reader.specs.declared.Answer.TheVariants.{Found}
-use Rattle.telnet_reader.specs.Promise.{read_at}
+use Rattle.telnet_reader.specs.Promise.{event_found, read_at}
 use Rattle.telnet_reader.proofs.Carried.{read-run}
 use Rattle.telnet_reader.proofs.read.Goals as goal
 
@@ -23,7 +22,7 @@ returns-then-count-gt0 c =
     (sym c.holds_rest.ensures ∙ c.if-not-holds_rest.false) in
     let room : count bs ≤ length a.out.now = omega (arith, holds, count-within bs, length-drop a.at a.s.now) in
     let run = run-whole a.s.now a.at a.out.now 0 c.copy_run-run.ensures (omega arith) in
-    ap₂ outcome (ap₂ (Found Data) run.told.counted run.told.ended) run.lent
+    ap₂ outcome (ap₂ (event_found Data) run.told.counted run.told.ended) run.lent
     ∙ sym (read-run a.s.now a.at a.out.now (omega (arith, run.told.counted)) room)
 
 pub returns : goal.returns

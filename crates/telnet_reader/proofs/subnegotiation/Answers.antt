@@ -3,7 +3,7 @@ use mathlib.Core.Path.{sym, ap, ap₂, ◌∙◌}
 use Prim.Native.Nat.{◌+◌}
 use native.Mathlib.Omega.{arith}
 use lib.ListN.{drop, get_or, length-drop}
-use Rattle.telnet_reader.specs.declared.Answer.TheVariants.{Found}
+use Rattle.telnet_reader.specs.Promise.{event_found}
 use Rattle.telnet.specs.declared.Kind.TheVariants.{Subnegotiation}
 use Rattle.telnet_data.proofs.Stretches.{span-within, Measured, measured}
 use Rattle.telnet_reader.proofs.Places.{sb-cut, sb-long, sb-short, sb-undoubled, sb-found}
@@ -49,5 +49,5 @@ pub returns : goal.returns
 returns c =
     let a = c.args in
     let m = payload (goal.at.returns c).After-measure-payload in
-    ap₂ (Found (Subnegotiation (get_or a.s.now (a.at + 2) 0))) m.counted (ap (λ k. k + 2) m.ended)
+    ap₂ (event_found (Subnegotiation (get_or a.s.now (a.at + 2) 0))) m.counted (ap (λ k. k + 2) m.ended)
     ∙ sym (sb-found a.s.now a.at (omega arith) (omega arith) (omega arith) (rw m.ended at c.if-s-end.false))

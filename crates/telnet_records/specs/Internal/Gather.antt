@@ -4,15 +4,11 @@
 use Rattle.std.specs.Prelude.{◌≡◌, ℕ, ◌+◌, ◌≤◌, ◌<◌, Bool, false, List, [], eqb, length, drop}
 use Rattle.telnet.specs.declared.Kind.{Kind}
 use Rattle.telnet.specs.declared.Kind.TheVariants.{Data, Command, Negotiation, Subnegotiation}
-use Rattle.telnet_records.specs.declared.Record.{Record}
-use Rattle.telnet_records.specs.declared.Record.TheVariants.{Complete}
-use Rattle.telnet_records.specs.declared.Progress.{Progress}
-use Rattle.telnet_records.specs.declared.Progress.TheVariants.{More, Done}
 use Rattle.telnet_data.specs.declared.Extent.{Extent}
 use Rattle.telnet.specs.Event.{eor}
 use Rattle.telnet.specs.Read.{data_run}
 use Rattle.telnet.specs.Record.{Gathered, complete, no_record, record_of}
-use Rattle.telnet_records.specs.Promise.{answer_no_record}
+use Rattle.telnet_records.specs.Promise.{Answer, record_found, answer_no_record}
 use Rattle.octets.specs.Lent.{overwrite}
 
 -- how many bytes an event adds to a record, by its kind and how many it carries
@@ -30,23 +26,18 @@ ends_record (Negotiation v o) = false
 ends_record (Subnegotiation o) = false
 
 -- a record that begins at place i, after n bytes of data
-unfoldable pub sized : (n i : ℕ) → Gathered → Record
-sized n i (complete d w) = Complete (n + length d) (i + w)
+unfoldable pub sized : (n i : ℕ) → Gathered → Answer
+sized n i (complete d w) = record_found (n + length d) (i + w)
 sized n i (no_record how) = answer_no_record how
 
 -- the record from place i on, after n bytes of data
-unfoldable pub sized_at : List ℕ → (n i : ℕ) → Record
+unfoldable pub sized_at : List ℕ → (n i : ℕ) → Answer
 sized_at s n i = sized n i (record_of (drop i s))
 
 -- the data of the record at the front, none where it is lacking
 unfoldable pub record_data : Gathered → List ℕ
 record_data (complete d w) = d
 record_data (no_record how) = []
-
--- one event further: the record is the same from there, or is known
-abbrev pub Advanced : List ℕ → (i n : ℕ) → Progress → Type 0
-Advanced s i n (More p c) = (sized_at s n i ≡ sized_at s c p) × (i < p) × (p ≤ length s) × (c ≤ p)
-Advanced s i n (Done r) = sized_at s n i ≡ r
 
 -- the data of the record from place i on
 unfoldable pub data_at : List ℕ → ℕ → List ℕ

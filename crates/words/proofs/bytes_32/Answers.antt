@@ -5,4 +5,4 @@ use Rattle.words.proofs.bytes_32.Goals as goal
 
 pub returns : goal.returns
 unfolding bytes
-returns c = rw div-one
+returns c = rw c.to_be_bytes.ensures (rw div-one)

@@ -5,4 +5,4 @@ use Rattle.words.proofs.Rotation.{turned}
 use Rattle.words.proofs.rotate_left_32.Goals as goal
 
 pub returns : goal.returns
-returns c = turned 32 (c.args.n % 32) c.args.x (omega arith) c.ranges.x.fits
+returns c = cc (turned 32 (c.args.n % 32) c.args.x (omega arith) c.ranges.x.fits)

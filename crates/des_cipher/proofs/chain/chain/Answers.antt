@@ -1,10 +1,9 @@
 -- `des_cipher::chain::chain` meets its contract: the chain over the blocks still to come, from the last one, gives the
--- whole. The measure is `length blocks - i`. Assumes nothing.
+-- whole. Assumes nothing.
 use mathlib.Core.Path.{◌≡◌, sym, ◌∙◌}
 use mathlib.Core.List.{List}
-use Prim.Native.Nat.{ℕ, ◌+◌, ◌≤◌, ◌<◌}
+use Prim.Native.Nat.{ℕ, ◌+◌, ◌<◌}
 use native.Mathlib.Numerals.{add-one}
-use native.Mathlib.Omega.{arith}
 use lib.Bits.{bit_xor}
 use lib.ListN.{length, drop, get_or, drop_of_length-le}
 use lib.Seq.{drop-cons}
@@ -16,17 +15,16 @@ one_more : (Ks : List (List ℕ)) (x : ℕ) (l : List ℕ) (i : ℕ) → i < len
 unfolding chained
 one_more Ks x l i h = rw (add-one, drop-cons l i 0 h)
 
-pub loop-i-preserved : goal.loop-i-preserved
-loop-i-preserved c =
-    let l = c.loop-i in
+pub loop-block-preserved : goal.loop-block-preserved
+loop-block-preserved c =
+    let l = c.loop-block in
     let keys = c.args.keys.now in
     let blocks = c.args.blocks.now in
-    (omega arith, rw c.encipher_by-last.ensures (sym (one_more keys l.last blocks l.i (omega arith)) ∙ l.invariant.1))
+    rw c.encipher_by-last.ensures (sym (one_more keys l.last blocks l.block-index c.loop-block-test.true) ∙ l.invariant)
 
 pub returns : goal.returns
 unfolding chained
 returns c =
-    let l = c.loop-i in
+    let l = c.loop-block in
     let blocks = c.args.blocks.now in
-    let done : length blocks ≤ l.i = omega arith in
-    rw (drop_of_length-le blocks {i = l.i} done) at l.invariant.1
+    rw (drop_of_length-le blocks {i = l.block-index} c.loop-block-test.false) at l.invariant

@@ -1,11 +1,7 @@
 use mathlib.Core.Path.{◌≡◌}
-use Prim.Native.Nat.{◌-◌, ◌≤◌}
-use lib.ListN.{length, drop}
+use lib.ListN.{drop}
 use Rattle.des.specs.Cipher.{chained}
 use Rattle.des_cipher.proofs.chain.chain.Given as goal
 
-abbrev pub invariant-loop-i : goal.invariant-loop-i
-invariant-loop-i l = (l.i ≤ length l.blocks) × (chained l.keys l.last (drop l.i l.blocks) ≡ chained l.keys 0 l.blocks)
-
-abbrev pub decreases-loop-i : goal.decreases-loop-i
-decreases-loop-i l = length l.blocks - l.i
+abbrev pub invariant-loop-block : goal.invariant-loop-block
+invariant-loop-block l = chained l.keys l.last (drop l.block-index l.blocks) ≡ chained l.keys 0 l.blocks

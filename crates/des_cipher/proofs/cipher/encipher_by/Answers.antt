@@ -1,5 +1,5 @@
 -- `des_cipher::cipher::encipher_by` meets its contract: the iterations still to come, from where L and R are, give
--- the whole. The measure is `16 - i`. Assumes nothing.
+-- the whole. Assumes nothing.
 use mathlib.Core.Path.{◌≡◌, refl, sym, ap, ◌∙◌}
 use mathlib.Core.List.{List, []}
 use Prim.Native.Nat.{ℕ, ◌+◌, ◌*◌, ◌%◌, ◌^◌, ◌≤◌, ◌<◌}
@@ -24,34 +24,32 @@ last : (L R : ℕ) → preoutput L R [] ≡ R * 2 ^ 32 + L
 unfolding preoutput
 last L R = refl
 
-pub loop-i-init : goal.loop-i-init
+pub loop-key-init : goal.loop-key-init
 unfolding output
-loop-i-init c =
+loop-key-init c =
     let e : c.initial_permutation-start.result ≡ permuted 64 IP c.args.block = c.initial_permutation-start.ensures in
     let h : c.initial_permutation-start.result < 2 ^ 64 = rw e (permuted-lt 64 IP c.args.block) in (
-      omega arith,
       omega arith,
       mask_lt c.initial_permutation-start.result 32,
       rw (and_mask c.initial_permutation-start.result 32, e),
     )
 
-pub loop-i-preserved : goal.loop-i-preserved
-loop-i-preserved c =
-    let l = c.loop-i in
+pub loop-key-preserved : goal.loop-key-preserved
+loop-key-preserved c =
+    let l = c.loop-key in
     let keys = c.args.keys.now in
-    let e : c.mix.result ≡ f l.right (get_or keys l.i []) = c.mix.ensures in (
-      omega arith,
-      l.invariant.2,
-      rw e (xor_lt 32 l.left (f l.right (get_or keys l.i [])) l.invariant.1 (f_lt l.right (get_or keys l.i []))),
-      rw e (ap (permuted 64 IP⁻¹) (sym (one_more l.left l.right keys l.i (omega arith))) ∙ l.invariant.3),
+    let e : c.mix.result ≡ f l.right (get_or keys l.key-index []) = c.mix.ensures in (
+      l.invariant.1,
+      rw e (xor_lt 32 l.left (f l.right (get_or keys l.key-index [])) l.invariant.0 (f_lt l.right (get_or keys l.key-index []))),
+      rw e (ap (permuted 64 IP⁻¹) (sym (one_more l.left l.right keys l.key-index (omega arith))) ∙ l.invariant.2),
     )
 
 pub returns : goal.returns
 returns c =
-    let l = c.loop-i in
+    let l = c.loop-key in
     let a = c.args in
-    let done : length a.keys.now ≤ l.i = omega arith in
+    let done : length a.keys.now ≤ l.key-index = omega arith in
     let e : l.right * 2 ^ 32 % 2 ^ 64 ≡ l.right * 2 ^ 32 = omega arith in
     let pre : bit_or (l.right * 2 ^ 32 % 2 ^ 64) l.left ≡ preoutput l.left l.right [] =
-    rw e (or_shifted l.right 32 l.left l.invariant.1) ∙ sym (last l.left l.right) in
-    c.final_permutation.ensures ∙ ap (permuted 64 IP⁻¹) pre ∙ rw (drop_of_length-le a.keys.now {i = l.i} done) at l.invariant.3
+    rw e (or_shifted l.right 32 l.left l.invariant.0) ∙ sym (last l.left l.right) in
+    c.final_permutation.ensures ∙ ap (permuted 64 IP⁻¹) pre ∙ rw (drop_of_length-le a.keys.now {i = l.key-index} done) at l.invariant.2

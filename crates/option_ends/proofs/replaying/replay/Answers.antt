@@ -1,5 +1,5 @@
 -- `option_ends::replaying::replay` meets its contract: at each turn the ends and the totals are those of the bytes
--- passed. The measure is `length calls - i`. Assumes nothing.
+-- passed. Assumes nothing.
 use mathlib.Core.Path.{refl, ap, ◌∙◌}
 use native.Mathlib.Omega.{arith}
 use lib.ListN.{take, get_or}
@@ -11,42 +11,29 @@ use Rattle.option_ends.specs.Internal.Turn.{onward, clipped}
 use Rattle.option_ends.proofs.Whole.{one_more, totals-fit}
 use Rattle.option_ends.proofs.replaying.replay.Goals as goal
 
-pub loop-i-init : goal.loop-i-init
+pub loop-byte-init : goal.loop-byte-init
 unfolding calls_of after count_where
-loop-i-init c = (omega arith, refl)
-
-pub bounds-calls-i : goal.bounds-calls-i
-bounds-calls-i c = omega arith
+loop-byte-init c = refl
 
 pub next-past-requires : goal.next-past-requires
 next-past-requires c =
     let a = c.args in
-    let l = c.loop-i in
-    let f = totals-fit (rules_of a.option) (take l.i a.calls.now) in
-    let s = ap (λ (s : Standing). s.sent) l.invariant.1 in
-    let g = ap (λ (s : Standing). s.granted) l.invariant.1 in
-    omega (arith, f, s, g, length-take-le l.i a.calls.now l.invariant.0, c.well_formed)
+    let l = c.loop-byte in
+    let f = totals-fit (rules_of a.option) (take l.byte-index a.calls.now) in
+    let s = ap (λ (s : Standing). s.sent) l.invariant in
+    let g = ap (λ (s : Standing). s.granted) l.invariant in
+    omega (arith, f, s, g, length-take-le l.byte-index a.calls.now (omega arith), c.well_formed)
 
-pub overflow_add-i : goal.overflow_add-i
-overflow_add-i c = omega arith
-
-pub loop-i-smaller : goal.loop-i-smaller
-loop-i-smaller c = omega arith
-
-pub loop-i-preserved : goal.loop-i-preserved
-loop-i-preserved c =
+pub loop-byte-preserved : goal.loop-byte-preserved
+loop-byte-preserved c =
     let a = c.args in
-    let l = c.loop-i in
-    let lt = c.loop-i-test.true in
-    let r = rules_of a.option in (
-      omega arith,
-      c.next-past.ensures
-          ∙ ap (λ (s : Standing). clipped (onward r s (call_of (get_or a.calls.now l.i 0)))) l.invariant.1
-          ∙ one_more a.option a.calls.now l.i lt,
-    )
+    let l = c.loop-byte in
+    let r = rules_of a.option in
+    c.next-past.ensures
+    ∙ ap (λ (s : Standing). clipped (onward r s (call_of (get_or a.calls.now l.byte-index 0)))) l.invariant
+    ∙ one_more a.option a.calls.now l.byte-index c.loop-byte-test.true
 
 pub returns : goal.returns
 returns c =
-    let a = c.args in
-    let l = c.loop-i in
-    l.invariant.1 ∙ rw (take_all l.i a.calls.now c.loop-i-test.false)
+    let l = c.loop-byte in
+    l.invariant ∙ rw (take_all l.byte-index c.args.calls.now (omega arith))

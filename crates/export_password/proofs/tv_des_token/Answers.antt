@@ -1,7 +1,0 @@
--- `export_password::tv_des_token` meets its contract: the numbers of what `des_token` answers. Assumes nothing.
-use mathlib.Core.Path.{ap, ◌∙◌}
-use Rattle.export_password.specs.Numbers.{block_numbers}
-use Rattle.export_password.proofs.tv_des_token.Goals as goal
-
-pub returns : goal.returns
-returns c = c.block_numbers.ensures ∙ ap block_numbers c.des_token.ensures

@@ -1,5 +1,0 @@
--- `export_reader::tv_reader_fresh` meets its contract. Assumes nothing.
-use Rattle.export_reader.proofs.tv_reader_fresh.Goals as goal
-
-pub returns : goal.returns
-returns c = rw (c.reader_numbers.ensures, c.fresh.ensures)
