@@ -488,7 +488,7 @@ extern tv_sent_t tv_option_request(tv_sides_t sides, bool ours,
  * nothing and give 0. tv_look tells the next place to hear from.
  * Refused by 5 where either place is past its end; as tv_look; by 4.
  */
-#define TV_STACK_OPTION_HEAR 512
+#define TV_STACK_OPTION_HEAR 1024
 extern tv_sent_t tv_option_hear(tv_sides_t sides,
 		const uint8_t *heard, size_t heard_length, size_t from, bool accept,
 		uint8_t *line, size_t line_length, size_t at);
