@@ -26,10 +26,14 @@ wrote n = record { refusal = 0; length = n }
 abbrev pub not_written : ℕ → TvWritten
 not_written r = record { refusal = r; length = 0 }
 
+-- the numbers of a writer's answer, with a refusal told by its number, whatever refusals are
+abbrev pub written_numbers_by : {E : Type 0} → (E → ℕ) → Result ℕ E → TvWritten
+written_numbers_by f (Ok n) = wrote n
+written_numbers_by f (Err e) = not_written (f e)
+
 -- the numbers of a writer's answer
 abbrev pub written_numbers : Result ℕ Refusal → TvWritten
-written_numbers (Ok n) = wrote n
-written_numbers (Err e) = not_written (number e)
+written_numbers = written_numbers_by number
 
 abbrev pub three : (w c o : ℕ) → KindNumbers
 three w c o = record { what = w; code = c; option = o }

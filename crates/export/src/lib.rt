@@ -4,9 +4,9 @@
 #![tactic(auto)]
 
 ghost use Rattle.std.specs.Prelude.{◌≡◌};
-ghost use Rattle.export.specs.Numbers.{kind_numbers, verb_named, negotiation_named, kind_named, KindsNamed, mark, written_numbers};
+ghost use Rattle.export.specs.Numbers.{kind_numbers, verb_named, negotiation_named, kind_named, KindsNamed, mark, written_numbers_by};
 
-use refusal::Refusal;
+use refusal::Numbered;
 use telnet::{DO, DONT, Kind, Verb, WILL, WONT};
 
 // The kind of an event. `what` is 1 for data, 2 for a command, 3 for a negotiation, 4 for a subnegotiation. `code` is
@@ -94,14 +94,14 @@ pub fn mark(set: bool) -> u8
     set as u8
 }
 
-// What a writer answers, as numbers.
-pub fn written_numbers(answer: Result<usize, Refusal>) -> TvWritten
-    ensures { result ≡ written_numbers answer }
+// What a writer answers, as numbers; it may refuse by any number.
+pub fn written_numbers<E: Numbered>(answer: Result<usize, E>) -> TvWritten
+    ensures { result ≡ written_numbers_by E.number_of answer }
 {
     match answer {
         Ok(length) => TvWritten { refusal: 0, length },
         Err(e) => TvWritten {
-            refusal: e.number(),
+            refusal: e.told(),
             length: 0,
         },
     }

@@ -30,8 +30,7 @@ fn ascii(b: u8) -> u8 {
 // The response code of a record.
 fn say_code(record: &[u8]) {
     let code = [16, 17, 18, 19].map(|at| ascii(octets_part::byte_at(record, at)));
-    io::write_all(1, b": ");
-    io::write_all(1, &code);
+    io::write_all(1, &[b':', b' ', code[0], code[1], code[2], code[3]]);
 }
 
 // The printer reads the record at a place.

@@ -2,7 +2,7 @@
 // `specs/Refusal.antt`.
 #![tactic(auto)]
 
-ghost use Rattle.std.specs.Prelude.{◌≡◌};
+ghost use Rattle.std.specs.Prelude.{◌≡◌, ℕ};
 ghost use Rattle.refusal.specs.Refusal.{number, numbers};
 ghost use Rattle.refusal.specs.RefusedBy.{number_or_0};
 
@@ -57,6 +57,32 @@ impl Refusal {
         ensures { result ≡ number self }
     {
         self as u8
+    }
+}
+
+// What a refusal can be told by: one of the table's by its name, or any number as it is. So a line and a writer's
+// answer can be told of a refusal that has no name here.
+pub trait Numbered: Copy {
+    ghost number_of: { Self → ℕ };
+
+    // The number that is told.
+    fn told(self) -> u8
+        ensures { result ≡ number_of self };
+}
+
+impl Numbered for Refusal {
+    ghost number_of = { number };
+
+    fn told(self) -> u8 {
+        self.number()
+    }
+}
+
+impl Numbered for u8 {
+    ghost number_of = { λ n. n };
+
+    fn told(self) -> u8 {
+        self
     }
 }
 

@@ -28,10 +28,12 @@ fn say_receipt(receipt: Result<Receipt, Refusal>) {
 
 fn say_completion(completion: Result<(), Refusal>) {
     match completion {
-        Ok(()) => say(b"written"),
-        Err(e) => say_refused(e),
+        Ok(()) => say(b"written, "),
+        Err(e) => {
+            say_refused(e);
+            say(b", ");
+        }
     }
-    say(b", ");
 }
 
 fn say_hex(bytes: &[u8]) {

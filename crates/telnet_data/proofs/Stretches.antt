@@ -6,10 +6,11 @@ use mathlib.Core.List.{List, [], ◌∷◌, ◌++◌, append_assoc, append-nil}
 use Prim.Native.Nat.{ℕ, zero, suc, ◌+◌, ◌-◌, ◌≤◌, ◌<◌}
 use native.Mathlib.Omega.{arith}
 use lib.Dec.{eqb}
-use lib.ListN.{length, take, drop, length-append, length-drop, length-take, drop_of_length-le}
+use lib.ListN.{length, take, drop, get_or, length-append, length-drop, length-take, drop_of_length-le}
 use lib.Seq.{drop-drop}
 use borrow.Author.Tests.{eqb-true}
 use Rattle.octets.specs.Find.{up_to}
+use Rattle.octets.proofs.Front.{pair-front}
 use Rattle.telnet.specs.Event.{iac}
 use Rattle.telnet.specs.Write.{doubled}
 use Rattle.telnet.specs.Read.{data_run}
@@ -133,6 +134,20 @@ module _ (s : List ℕ) (i : ℕ) where
   pub ended : length s ≤ i → data_run (drop i s) ≡ []
   unfolding data_run
   ended h = rw (drop_of_length-le s {i = i} h)
+
+  -- whether a doubled 255 is at a place, by the bytes there
+  pub doubled-short : length s < i + 2 → is_doubled (drop i s) ≡ false
+  unfolding is_doubled
+  doubled-short h = short (drop i s) (omega (arith, length-drop i s))
+    where
+      short : (bs : List ℕ) → length bs < 2 → is_doubled bs ≡ false
+      short [] l = refl
+      short (b ∷ []) l = refl
+      short (b ∷ c ∷ bs) l = absurd (omega arith)
+
+  pub doubled-pair : i + 1 < length s → is_doubled (drop i s) ≡ eqb (get_or s i 0) iac && eqb (get_or s (i + 1) 0) iac
+  unfolding is_doubled
+  doubled-pair h = rw (pair-front s i h)
 
 -- `n` bytes of the stretch at a place are passed, up to the place `i` after them
 pub record Passed (s : List ℕ) (at i n : ℕ) : Type 0 where

@@ -20,7 +20,13 @@ pub struct Extent {
 fn is_doubled(s: &[u8], at: usize) -> bool
     ensures { result ≡ is_doubled (drop at s.now) }
 {
-    octets_part::part(s, at, 2) == [IAC, IAC].as_slice()
+    if s.len() <= at {
+        return false;
+    }
+    if s.len() - at < 2 {
+        return false;
+    }
+    s[at] == IAC && s[at + 1] == IAC
 }
 
 // The longest stretch of data at a place.
@@ -50,6 +56,10 @@ fn copy_plain(s: &[u8], at: usize, out: &mut [u8], to: usize) -> usize
     ensures { PlainCopied s.now at out.old to result out.new }
 {
     let n = (octets_find::find_byte(s, at, IAC) - at).min(out.len() - to);
+    // Between doubled 255s there is often nothing, and a copy of nothing takes as long as one of eight bytes.
+    if n == 0 {
+        return 0;
+    }
     octets::put(octets_part::part(s, at, n), out, to);
     n
 }

@@ -3,7 +3,8 @@
 // right is said in the crate `telnet_fragments`.
 #![tactic(auto)]
 
-ghost use Rattle.std.specs.Prelude.{◌≡◌, ◌≤◌, None, Some};
+ghost use Rattle.std.specs.Prelude.{◌≡◌, ◌+◌, ◌≤◌, None, Some, length};
+ghost use Rattle.octets.specs.Lent.{overwrite};
 ghost use Rattle.telnet_feed.specs.Internal.Answers.{taken, payload_length};
 ghost use Rattle.telnet_fragments.specs.Promise.{fresh_reader, Fed, ClosedAs};
 
@@ -21,6 +22,17 @@ fn payload_length(kind: Option<Kind>, count: usize) -> usize
         Some(Kind::Data | Kind::Subnegotiation(_)) => count.min(PAYLOAD_LIMIT),
         _ => 0,
     }
+}
+
+// Puts a payload at a place where there is room for it. Most calls have none, and need no copy.
+fn put_payload(payload: &[u8], room: &mut [u8], at: usize)
+    requires { at + length payload.now ≤ length room.old }
+    ensures { room.new ≡ overwrite room.old at payload.now }
+{
+    if payload.len() == 0 {
+        return;
+    }
+    octets::put(payload, room, at);
 }
 
 // A call that takes nothing.
@@ -81,7 +93,7 @@ pub fn feed(
         kind,
     } = telnet_pass::pass(reader.stage, reader.count, kept, &fragment[..end], room);
     let payload = payload_length(kind, count);
-    octets::put(&kept[..payload], room, length);
+    put_payload(&kept[..payload], room, length);
     Taken {
         reader: Reader {
             stage,

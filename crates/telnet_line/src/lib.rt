@@ -3,11 +3,11 @@
 
 ghost use Rattle.std.specs.Prelude.{◌≡◌};
 ghost use Rattle.octets.specs.Lent.{outcome};
-ghost use Rattle.telnet_line.specs.Line.{answer_text, line as line_of};
+ghost use Rattle.telnet_line.specs.Line.{answer_text_by, line as line_of};
 ghost use Rattle.telnet_line.specs.Promise.{text_of_line};
 ghost use Rattle.refusal.specs.Written.{written_into};
 
-use refusal::Refusal;
+use refusal::{Numbered, Refusal};
 use telnet_reader::Found;
 
 mod words;
@@ -19,9 +19,9 @@ pub struct LineText {
     pub length: usize,
 }
 
-// The line of what is at a place.
-pub fn line_text(place: usize, answer: Result<Option<Found>, Refusal>) -> LineText
-    ensures { result ≡ text_of_line (line_of place (answer_text answer)) }
+// The line of what is at a place, or of a refusal there by any number.
+pub fn line_text<E: Numbered>(place: usize, answer: Result<Option<Found>, E>) -> LineText
+    ensures { result ≡ text_of_line (line_of place (answer_text_by E.number_of answer)) }
 {
     let phrase = words::answer_phrase(answer);
     let mut bytes = [0u8; 67];
@@ -30,12 +30,12 @@ pub fn line_text(place: usize, answer: Result<Option<Found>, Refusal>) -> LineTe
 }
 
 // The line of what is at a place, put to the front of the buffer.
-pub fn line(
+pub fn line<E: Numbered>(
     place: usize,
-    answer: Result<Option<Found>, Refusal>,
+    answer: Result<Option<Found>, E>,
     out: &mut [u8],
 ) -> Result<usize, Refusal>
-    ensures { outcome result out.new ≡ written_into (line_of place (answer_text answer)) out.old }
+    ensures { outcome result out.new ≡ written_into (line_of place (answer_text_by E.number_of answer)) out.old }
 {
     let text = line_text(place, answer);
     let bytes = text.bytes;

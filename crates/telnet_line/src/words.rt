@@ -4,11 +4,11 @@
 ghost use Rattle.std.specs.Prelude.{◌≡◌, ◌++◌, ◌+◌, ◌≤◌, length};
 ghost use Rattle.octets.specs.Ascii.{ascii};
 ghost use Rattle.octets.specs.Decimal.{decimal};
-ghost use Rattle.telnet_line.specs.Line.{said, verb_name, command_text, text, answer_text, line};
+ghost use Rattle.telnet_line.specs.Line.{said, verb_name, command_text, text, answer_text_by, line};
 ghost use Rattle.telnet_line.specs.Internal.Phrase.{spaced, most, phrase_text, Short, IsPhrase};
 ghost use Rattle.telnet_line.specs.Internal.Put.{Put};
 
-use refusal::Refusal;
+use refusal::Numbered;
 use telnet::{Kind, Verb};
 use telnet_reader::Found;
 
@@ -82,14 +82,14 @@ fn kind_phrase(kind: Kind, length: usize) -> Phrase
 }
 
 // What a line says of what is at a place.
-#[tactic(auto, unfolding(crate::specs::Line::answer_text, crate::specs::Line::ending_text))]
-pub(crate) fn answer_phrase(answer: Result<Option<Found>, Refusal>) -> Phrase
-    ensures { IsPhrase (answer_text answer) result }
+#[tactic(auto, unfolding(crate::specs::Line::answer_text_by, crate::specs::Line::ending_text))]
+pub(crate) fn answer_phrase<E: Numbered>(answer: Result<Option<Found>, E>) -> Phrase
+    ensures { IsPhrase (answer_text_by E.number_of answer) result }
 {
     match answer {
         Ok(Some(found)) => kind_phrase(found.kind, found.length),
         Ok(None) => bare(b"END"),
-        Err(e) => with_number(b"REFUSED", e.number() as u64),
+        Err(e) => with_number(b"REFUSED", e.told() as u64),
     }
 }
 

@@ -18,7 +18,7 @@ use Rattle.telnet.specs.Theorems.{read_on}
 use Rattle.telnet.proofs.Unroll.{unrolled}
 use Rattle.telnet_reader.proofs.Places.{looked}
 use Rattle.telnet_reader.proofs.Carried.{Carries, none, not_found, carries, event-carries}
-use Rattle.telnet_line.specs.Line.{answer_text, line}
+use Rattle.telnet_line.specs.Line.{ending_text, answer_text_by, answer_text, line}
 use Rattle.telnet_listing.specs.Listing.{lines_from, listing}
 
 abbrev lines_of : ℕ → Reading → List ℕ
@@ -44,7 +44,7 @@ found_in r = result_unwrap_or r None
 module _ (s : List ℕ) (i : ℕ) (h : i ≤ length s) where
   -- a turn, where the reader answers r, and q is the event in it
   pub turn : {r : Answer} {q : Option Found} → r ≡ look_at s i → found_in r ≡ q → lines_at s i ≡ line i (answer_text r) ++ after s q
-  unfolding lines_at lines_from read_on answered answer_text
+  unfolding lines_at lines_from read_on answered ending_text answer_text_by
   turn {r} e g =
       ap (lines_of i) (unrolled (drop i s)) ∙ go (event_of (drop i s))
       ∙ ap (λ a. line i (answer_text a) ++ after s (found_in a)) (sym (e ∙ looked s i h))

@@ -27,7 +27,7 @@ use Rattle.telnet_reader.specs.Promise.{answered}
 use Rattle.telnet_reader.proofs.Places.{looked}
 use Rattle.telnet.proofs.Stretch.{doubled-longer}
 use Rattle.telnet_reader.proofs.Carried.{Carries, none, not_found, carries, event-carries}
-use Rattle.telnet_line.specs.Line.{said, verb_name, command_text, text, ending_text, answer_text, line}
+use Rattle.telnet_line.specs.Line.{said, verb_name, command_text, text, ending_text, answer_text_by, answer_text, line}
 use Rattle.telnet_listing.specs.Listing.{listing}
 use Rattle.telnet_listing.specs.Printed.{limit, printed, Fits}
 use Rattle.telnet_listing.proofs.Lines.{lines_at, lines-all, after, found_in, turn-length}
@@ -120,7 +120,7 @@ module _ (s : List ℕ) (g : Bytes s) (most : length s ≤ limit) where
   Bound i = length (lines_at s i) + 13 * i ≤ 13 * length s + 16
 
   turn-short : (i : ℕ) → i ≤ length s → ((j : ℕ) → i < j → j ≤ length s → Bound j) → Bound i
-  unfolding answered answer_text ending_text
+  unfolding answered answer_text_by ending_text
   turn-short i h further =
       omega (arith, turn-length s i h (sym (looked s i h)) refl, go (event_of (drop i s)) (event-carries (drop i s)) (event-plain (drop i s) (bytes-from i)))
     where

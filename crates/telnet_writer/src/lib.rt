@@ -6,7 +6,6 @@ ghost use Rattle.std.specs.Prelude.{◌≡◌};
 ghost use Rattle.telnet.specs.Event.{event, run, command, negotiation, subnegotiation};
 ghost use Rattle.telnet.specs.Write.{is_simple};
 ghost use Rattle.telnet_writer.specs.Promise.{write_of};
-ghost use Rattle.refusal.specs.Written.{written_into};
 ghost use Rattle.octets.specs.Lent.{outcome};
 
 use refusal::Refusal;
@@ -17,16 +16,6 @@ fn is_simple(c: u8) -> bool
     ensures { result ≡ is_simple c }
 {
     matches!(c, EOR | 241..=249)
-}
-
-// Writes bytes to the front of the buffer, where they fit.
-fn write_bytes(bytes: &[u8], out: &mut [u8]) -> Result<usize, Refusal>
-    ensures { outcome result out.new ≡ written_into bytes.now out.old }
-{
-    if !octets::put(bytes, out, 0) {
-        return Err(Refusal::NoRoom);
-    }
-    Ok(bytes.len())
 }
 
 fn write_run(bytes: &[u8], out: &mut [u8]) -> Result<usize, Refusal>
@@ -43,21 +32,31 @@ fn write_run(bytes: &[u8], out: &mut [u8]) -> Result<usize, Refusal>
     Ok(n)
 }
 
-#[tactic(auto, unfolding(crate::specs::Promise::write_of, crate::specs::Promise::unwritable, telnet::specs::Write::writable, telnet::specs::Write::written))]
 fn write_command(c: u8, out: &mut [u8]) -> Result<usize, Refusal>
     ensures { outcome result out.new ≡ write_of (command c) out.old }
 {
     if !is_simple(c) {
         return Err(Refusal::NotWritable);
     }
-    write_bytes(&[IAC, c], out)
+    if out.len() < 2 {
+        return Err(Refusal::NoRoom);
+    }
+    out[0] = IAC;
+    out[1] = c;
+    Ok(2)
 }
 
-#[tactic(auto, unfolding(crate::specs::Promise::write_of, crate::specs::Promise::unwritable, telnet::specs::Write::writable, telnet::specs::Write::written))]
 fn write_negotiation(verb: Verb, option: u8, out: &mut [u8]) -> Result<usize, Refusal>
     ensures { outcome result out.new ≡ write_of (negotiation verb option) out.old }
 {
-    write_bytes(&[IAC, verb.code(), option], out)
+    let c = verb.code();
+    if out.len() < 3 {
+        return Err(Refusal::NoRoom);
+    }
+    out[0] = IAC;
+    out[1] = c;
+    out[2] = option;
+    Ok(3)
 }
 
 fn write_subnegotiation(option: u8, payload: &[u8], out: &mut [u8]) -> Result<usize, Refusal>

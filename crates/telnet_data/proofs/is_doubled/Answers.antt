@@ -1,31 +1,24 @@
--- `telnet_data::is_doubled` meets its contract: two bytes are equal to 255 255 where each is. Assumes nothing.
-use mathlib.Core.Path.{◌≡◌, refl, ◌∙◌}
-use mathlib.Core.Bool.{Bool, true, false, ◌&&◌}
-use mathlib.Core.List.{List, [], ◌∷◌}
-use Prim.Native.Nat.{ℕ}
-use lib.Dec.{eqb}
-use lib.ListN.{take, drop}
-use lib.Pointwise.{pointwise}
-use Rattle.octets.specs.Part.{part}
+-- `telnet_data::is_doubled` meets its contract: the two bytes there, or that there are not two, decide. Assumes nothing.
+use mathlib.Core.Path.{sym, ◌∙◌}
+use native.Mathlib.Omega.{arith}
+use lib.ListN.{get_or}
+use borrow.Author.Tests.{eq-eqb, ne_eqb}
 use Rattle.telnet.specs.Event.{iac}
-use Rattle.telnet_data.specs.Internal.Pieces.{is_doubled}
+use Rattle.telnet_data.proofs.Stretches.{doubled-short, doubled-pair}
 use Rattle.telnet_data.proofs.is_doubled.Goals as goal
 
-pair-equal : (bs : List ℕ) → pointwise eqb (take 2 bs) (iac ∷ iac ∷ []) ≡ is_doubled bs
-unfolding is_doubled
-pair-equal [] = refl
-pair-equal (b ∷ []) = go (eqb b iac)
-  where
-    go : (t : Bool) → (t && false) ≡ false
-    go true = refl
-    go false = refl
-pair-equal (b ∷ c ∷ bs) = go (eqb b iac) (eqb c iac)
-  where
-    go : (t u : Bool) → (t && (u && true)) ≡ (t && u)
-    go true true = refl
-    go true false = refl
-    go false u = refl
+pub returns-then-s-at : goal.returns-then-s-at
+returns-then-s-at c = sym (doubled-short c.args.s.now c.args.at (omega arith))
 
-pub returns : goal.returns
-unfolding part
-returns c = rw (c.eq.ensures, c.part.ensures, c.as_slice.ensures) (pair-equal (drop c.args.at c.args.s.now))
+pub returns-then-s-at-lt2 : goal.returns-then-s-at-lt2
+returns-then-s-at-lt2 c = sym (doubled-short c.args.s.now c.args.at (omega arith))
+
+pub returns-then-s-at-2 : goal.returns-then-s-at-2
+returns-then-s-at-2 c =
+    let a = c.args in
+    sym (doubled-pair a.s.now a.at (omega arith) ∙ rw (eq-eqb (get_or a.s.now a.at 0) iac c.if-s-at-2.true))
+
+pub returns-else-s-at-2 : goal.returns-else-s-at-2
+returns-else-s-at-2 c =
+    let a = c.args in
+    sym (doubled-pair a.s.now a.at (omega arith) ∙ rw (ne_eqb (get_or a.s.now a.at 0) iac c.if-s-at-2.false))

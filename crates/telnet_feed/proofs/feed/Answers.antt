@@ -2,18 +2,17 @@
 -- payload put. Assumes nothing.
 use mathlib.Core.Path.{◌≡◌, refl, sym, ap, subst, ◌∙◌}
 use mathlib.Core.List.{List}
-use Prim.Native.Nat.{ℕ, ◌+◌, ◌≤◌}
+use Prim.Native.Nat.{ℕ, ◌≤◌}
 use native.Mathlib.Omega.{arith}
 use lib.ListN.{length, take, length-take}
 use lib.Seq.{take_all}
 use Rattle.octets.specs.Lent.{outcome}
-use Rattle.octets.proofs.Promise.{put_whole}
 use Rattle.octets_part.proofs.Parts.{take-clipped}
 use Rattle.telnet_fragments.specs.declared.Taken.{Taken}
 use Rattle.telnet_fragments.specs.Call.{call_limit}
 use Rattle.telnet_fragments.specs.Promise.{seen, mode_of}
 use Rattle.telnet_pass.specs.Run.{Ran}
-use Rattle.telnet_feed.proofs.Feeding.{no_room_lem, faulted, idle-short, idle-faulted, not-idle, held-is, room_after, fed-put}
+use Rattle.telnet_feed.proofs.Feeding.{no_room_lem, faulted, idle-short, idle-faulted, not-idle, held-is, fed-put}
 use Rattle.telnet_feed.proofs.feed.Goals.{After-pass-stage}
 use Rattle.telnet_feed.proofs.feed.Goals as goal
 
@@ -63,10 +62,7 @@ returns c =
     let big = c.if-room-lt-ROOM.false in
     let f = sym c.fault_of.ensures ∙ c.in_default.is in
     let ran = passed (goal.at.returns c).After-pass-stage in
-    let after = room_after s.stage s.count a.kept.now a.fragment.now a.room.now r q.new.kept q.new.out big ran in
-    let fits : r.length + length (take size.result q.new.kept) ≤ length q.new.out =
-    omega (arith, after, size.ensures.most, length-take size.result q.new.kept) in
-    let left = put_whole (take size.result q.new.kept) q.new.out r.length fits c.put.ensures in (
+    let left = c.put_payload.ensures in (
       rw c.held_count.ensures
           (fed-put s.stage s.count a.kept.now a.fragment.now a.room.now r q.new.kept q.new.out big ran ran.kept-is f _ _ _ c.fault_of-2.ensures size.ensures.is left),
       rw (not-idle s.stage s.count a.kept.now a.room.now big f)

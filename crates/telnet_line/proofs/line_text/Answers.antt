@@ -5,6 +5,6 @@ use Rattle.telnet_line.proofs.line_text.Goals as goal
 
 pub returns : goal.returns
 unfolding text_of_line
-returns c =
+returns g c =
     let p = c.compose-length.ensures in
     rw (p.bytes, p.after, zero-add, c.answer_phrase-phrase.ensures.says)
