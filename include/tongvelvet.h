@@ -42,7 +42,8 @@
  * else is written there: nothing is promised about it. Who must wipe them
  * makes the calls on a stack of his own and wipes that.
  *
- * The archive is built for x86-64 Linux, and needs memcpy and memset alone.
+ * The archive is built for x86-64 Linux, and needs memcpy, memmove and memset
+ * alone.
  * c/check builds it.
  */
 
