@@ -42,8 +42,7 @@
  * else is written there: nothing is promised about it. Who must wipe them
  * makes the calls on a stack of his own and wipes that.
  *
- * The archive is built for x86-64 Linux, and needs memcpy, memmove and memset
- * alone.
+ * The archive is built for x86-64 Linux, and needs memcpy and memset alone.
  * c/check builds it.
  */
 
@@ -489,7 +488,7 @@ extern tv_sent_t tv_option_request(tv_sides_t sides, bool ours,
  * nothing and give 0. tv_look tells the next place to hear from.
  * Refused by 5 where either place is past its end; as tv_look; by 4.
  */
-#define TV_STACK_OPTION_HEAR 1024
+#define TV_STACK_OPTION_HEAR 512
 extern tv_sent_t tv_option_hear(tv_sides_t sides,
 		const uint8_t *heard, size_t heard_length, size_t from, bool accept,
 		uint8_t *line, size_t line_length, size_t at);

@@ -24,7 +24,9 @@ pub fn put(bytes: &[u8], buffer: &mut [u8], at: usize) -> bool
     if no_room(bytes.len(), at, buffer.len()) {
         return false;
     }
-    buffer[at..at + bytes.len()].copy_from_slice(bytes);
+    for i in 0..bytes.len() {
+        buffer[at + i] = bytes[i];
+    }
     true
 }
 

@@ -6,7 +6,9 @@ ghost use Rattle.std.specs.Prelude.{◌≡◌};
 ghost use Rattle.octets.specs.Lent.{outcome};
 ghost use Rattle.telnet.specs.Event.{negotiation};
 ghost use Rattle.telnet.specs.Write.{written};
+ghost use Rattle.telnet_reader.specs.Promise.{look_at};
 ghost use Rattle.option_line.specs.Line.{sent, sent_by, received_on, requested_on, heard_event, heard_on};
+ghost use Rattle.option_line.specs.Internal.Kinds.{kind_of};
 
 use option_rules::Command;
 use option_sides::{Answered, Sides};
@@ -111,6 +113,17 @@ pub fn hear_event(sides: Sides, kind: Kind, accept: bool, line: &mut [u8], at: u
     }
 }
 
+// The kind of the event at a place of a line. A function of its own, so that the reader's whole answer is off the stack
+// before the event is heard.
+fn kind_at(heard: &[u8], from: usize) -> Result<Option<Kind>, Refusal>
+    ensures { result ≡ kind_of (look_at heard.now from) }
+{
+    let Some(found) = telnet_reader::look(heard, from)? else {
+        return Ok(None);
+    };
+    Ok(Some(found.kind))
+}
+
 // This end hears what is at a place of the other's line, and answers it on its own line if it is an option command.
 // A place past the end of either line is 5; what cannot be read is refused as the reader does.
 #[tactic(auto, unfolding(crate::specs::Line::heard_on, crate::specs::Line::unless_past))]
@@ -127,8 +140,8 @@ pub fn hear(
     if line.len() < at {
         return after(sides, Some(Refusal::PastTheEnd), at);
     }
-    match telnet_reader::look(heard, from) {
-        Ok(Some(found)) => return hear_event(sides, found.kind, accept, line, at),
+    match kind_at(heard, from) {
+        Ok(Some(kind)) => return hear_event(sides, kind, accept, line, at),
         Ok(None) => return after(sides, None, at),
         Err(refusal) => return after(sides, Some(refusal), at),
     }

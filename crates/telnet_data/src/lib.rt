@@ -56,7 +56,7 @@ fn copy_plain(s: &[u8], at: usize, out: &mut [u8], to: usize) -> usize
     ensures { PlainCopied s.now at out.old to result out.new }
 {
     let n = (octets_find::find_byte(s, at, IAC) - at).min(out.len() - to);
-    // Between doubled 255s there is often nothing, and a copy of nothing takes as long as one of eight bytes.
+    // Between two doubled 255s there is nothing: no copy is made of it.
     if n == 0 {
         return 0;
     }

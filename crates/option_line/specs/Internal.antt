@@ -1,0 +1,2 @@
+-- Definitions that only the contracts of private functions speak of.
+pub mod Kinds
