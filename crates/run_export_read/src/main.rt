@@ -3,8 +3,7 @@
 // number there is), and the line. A line of output has the title, the numbers of the answer in the order of its struct,
 // and the buffer that was lent, to its end; it is EE before. `stdin` and `stdout` were made by a Python script from the
 // constants of include/tongvelvet.h and the specification ("Framing", "Refusal numbers", the listing's lines): every
-// kind of event, every refusal at its boundary, which comes first, and each room with one byte less. Call 5 is none of
-// those for C: it says the line of a refusal by a number that need not be in the table, which is the first byte.
+// kind of event, every refusal at its boundary, which comes first, and each room with one byte less.
 #![tactic(auto)]
 
 use export::TvWritten;
@@ -44,20 +43,11 @@ fn list(line: &[u8], out: &mut [u8]) {
     say_written(written, out);
 }
 
-// First what a writer answers that refuses by this number.
-fn refuse(number: u8, at: usize, out: &mut [u8]) {
-    let refused = export::written_numbers(Err(number));
-    say_numbers(&[refused.refusal as usize, refused.length]);
-    let written = export::written_numbers(telnet_line::line(at, Err(number), out));
-    say_written(written, out);
-}
-
 fn call(which: u8, line: &[u8], at: usize, out: &mut [u8]) {
     match which {
         1 => return read(line, at, out),
         2 => return read_record(line, at, out),
         3 => return line_text(line, at, out),
-        5 => return refuse(octets_part::byte_at(line, 0), at, out),
         _ => return list(line, out),
     }
 }

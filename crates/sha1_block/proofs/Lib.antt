@@ -1,2 +1,3 @@
+pub mod Chunks
 pub mod Rounds
 pub mod Schedule

@@ -140,6 +140,7 @@ fn compress(h: Words, block: &[u8; 64]) -> Words
 }
 
 // The hash value after each whole block of `blocks`.
+#[tactic(auto, using(crate::proofs::Chunks::chunks_cut, crate::proofs::Chunks::chunks_whole))]
 pub fn absorb(h: Words, blocks: &[u8]) -> Words
     ensures { five result ≡ hashed (five h) (cut 64 blocks.now) }
 {
