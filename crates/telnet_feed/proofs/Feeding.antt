@@ -25,7 +25,7 @@ use Rattle.telnet_feed.specs.Internal.Answers.{payload_length}
 use Rattle.telnet_stage.specs.Stage.{held_count, fault_of}
 use Rattle.octets_part.proofs.Parts.{take_min}
 use Rattle.octets.specs.Lent.{outcome, overwrite}
-use Rattle.octets.proofs.Overwrite.{overwrite-nil, overwrite-append}
+use Rattle.octets.proofs.Overwrite.{overwrite-nil, overwrite-append, length-overwrite}
 use Rattle.refusal.specs.declared.Refusal.{Refusal}
 use Rattle.refusal.specs.declared.Refusal.TheVariants.{NoRoom}
 
@@ -155,6 +155,14 @@ fed s n p bs room r p' room' l h f ran =
 -- with the payload put after the data
 module _ (s : Stage) (n : ℕ) (p bs room : List ℕ) (r : Run) (p' room' : List ℕ) (h : 2048 ≤ length room)
     (ran : Ran s n p (take call_limit bs) room r p' room') where
+  -- there is room for it
+  pub room_after : r.length + 1024 ≤ length room'
+  room_after =
+      let x = (given (standing s n p) (take call_limit bs)).run in
+      let short : length x ≤ 1024 = omega (arith, ran.length-is, ran.short-is, length-take call_limit bs) in
+      let same : length room' ≡ length room = ap length ran.data_is ∙ length-overwrite room 0 x (omega arith) in
+      omega (arith, ran.length-is)
+
   pub fed-put : length p' ≡ 1024 → fault_of s ≡ None → (why : Option Refusal) (size : ℕ) (left : List ℕ) → why ≡ fault_of r.stage
       → size ≡ payload_length r.kind r.count → left ≡ overwrite room' r.length (take size p')
       → outcome (sees (standing r.stage (held_count r.stage r.count) p') why r.taken r.length r.kind size) left ≡ feed_of (standing s n p) bs room

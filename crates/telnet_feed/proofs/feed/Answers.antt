@@ -12,7 +12,7 @@ use Rattle.telnet_fragments.specs.declared.Taken.{Taken}
 use Rattle.telnet_fragments.specs.Call.{call_limit}
 use Rattle.telnet_fragments.specs.Promise.{seen, mode_of}
 use Rattle.telnet_pass.specs.Run.{Ran}
-use Rattle.telnet_feed.proofs.Feeding.{no_room_lem, faulted, idle-short, idle-faulted, not-idle, held-is, fed-put}
+use Rattle.telnet_feed.proofs.Feeding.{no_room_lem, faulted, idle-short, idle-faulted, not-idle, held-is, room_after, fed-put}
 use Rattle.telnet_feed.proofs.feed.Goals.{After-pass-stage}
 use Rattle.telnet_feed.proofs.feed.Goals as goal
 
@@ -51,6 +51,16 @@ passed c =
     rw first (take_all (length a.room.now) (take call_limit bs) fits) in
     subst (λ (x : List ℕ). Ran a.reader.stage a.reader.count a.kept.now x a.room.now c.pass-stage.result
     c.pass-stage.new.kept c.pass-stage.new.out) cut c.pass-stage.ensures
+
+pub put_payload-requires : goal.put_payload-requires
+put_payload-requires c =
+    let a = c.args in
+    let s = a.reader in
+    let q = c.pass-stage in
+    let size = c.payload_length-payload in
+    let ran = passed (goal.at.put_payload-requires c).After-pass-stage in
+    let after = room_after s.stage s.count a.kept.now a.fragment.now a.room.now q.result q.new.kept q.new.out c.if-room-lt-ROOM.false ran in
+    omega (arith, after, size.ensures.most, length-take size.result q.new.kept)
 
 pub returns : goal.returns
 returns c =
